@@ -1,0 +1,4 @@
+pub mod Months
+pub mod RoundTrips
+mod Easters
+mod ExtraLists

@@ -1,0 +1,46 @@
+// Days, months and dates of 2000 to 2039, and the calendars that give each day its kind.
+mod date;
+mod easter;
+mod extra_days;
+mod federal;
+mod kind;
+mod month;
+mod plain_week;
+mod season;
+#[cfg(test)]
+mod tests;
+mod week;
+
+pub use date::Date;
+pub use date::DateDebug;
+pub use date::DatePartialEq;
+pub use date::LAST_DAY;
+pub use date::date_of;
+pub use date::day_of;
+pub use date::day_of_year;
+pub use date::round_trip_stands;
+pub use easter::easter_stands;
+pub use easter::easter_sunday;
+pub use extra_days::ExtraDays;
+pub use extra_days::ExtraDaysCalendar;
+pub use federal::Federal;
+pub use federal::FederalCalendar;
+pub use kind::Calendar;
+pub use kind::DayKind;
+pub use kind::DayKindDebug;
+pub use kind::DayKindPartialEq;
+pub use month::LAST_MONTH;
+pub use month::first_day;
+pub use month::last_day;
+pub use month::month_number;
+pub use month::month_of;
+pub use plain_week::PlainWeek;
+pub use plain_week::PlainWeekCalendar;
+pub use season::Season;
+pub use season::SeasonDebug;
+pub use season::SeasonPartialEq;
+pub use season::season_of;
+pub use week::Weekday;
+pub use week::WeekdayDebug;
+pub use week::WeekdayPartialEq;
+pub use week::weekday_of;
