@@ -3,8 +3,7 @@ ghost use mathlib.Core.Path.{_≡_};
 ghost use mathlib.Core.Bool.{true, cond};
 ghost use Prim.Native.Nat.{_≤_};
 ghost use Rattle.std.specs.Of.Vec.{vec-items};
-ghost use Rattle.std.specs.Results.{isOk};
-ghost use Rattle.std.specs.declared.result.Result.the-variants.{Ok, Err};
+ghost use Rattle.units.specs.Makings.{Makes};
 ghost use Rattle.calendar.specs.declared.kind.DayKind.the-variants.{Holiday};
 ghost use Rattle.calendar.specs.ExtraDays.{rising, good-days, among};
 use super::date::LAST_DAY;
@@ -46,8 +45,7 @@ impl<C: Calendar> ExtraDays<C> {
 impl<C: Calendar + Drop> ExtraDays<C> {
     // Refused where the days are more than 64, not in order, or past the last.
     pub fn new(below: C, days: Vec<u32>) -> Result<ExtraDays<C>, Refusal>
-        ensures granted { λ r. ⌜ isOk r ≡ good-days (vec-items days) ⌝ }
-        ensures holds { λ r. ⌜ elim r [ Ok x ↦ (x .below ≡ below) × (x .days ≡ days) | Err e ↦ e ≡ Refusal.RuleBroken ] ⌝ }
+        ensures { λ r. ⌜ Makes (good-days (vec-items days) ≡ true) (λ x. (x .below ≡ below) × (x .days ≡ days)) r ⌝ }
     {
         if days.len() > 64 || !is_rising(&days) {
             return Err(Refusal::RuleBroken);

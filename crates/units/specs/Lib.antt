@@ -1,3 +1,4 @@
 pub mod Refusals
 pub mod Energy
 pub mod Money
+pub mod Makings

@@ -1,5 +1,6 @@
 // The units of settlement, each a type of its own, and the refusals.
 mod energy;
+mod make_error;
 mod money;
 mod refusal;
 #[cfg(test)]
@@ -11,6 +12,7 @@ pub use energy::grains::Grains;
 pub use energy::grains::GrainsAdd;
 pub use energy::kwh::Kwh;
 pub use energy::rounded_once_stands;
+pub use make_error::MakeError;
 pub use money::amount;
 pub use money::cents::Cents;
 pub use money::price::PriceHundredths;

@@ -19,7 +19,7 @@ use units::difference;
 fn target_over(days: u32, forecast: u32, day_sum: u32) -> Grains
     ensures { λ r. ⌜ r .count ≡ pos (days * (forecast * «day_sum»)) ⌝ }
 {
-    let mut target = Grains::on_day(0, 0);
+    let mut target = Grains::zero();
     for _day in 0..days {
         target = target + Grains::on_day(forecast, day_sum);
     }
@@ -64,7 +64,7 @@ pub fn settle(period: &Period) -> Result<Account, Refusal>
     let Some(difference) = difference(target, actual) else {
         unreachable()
     };
-    let billed = billed_kwh(Grains::on_day(0, 0), difference);
+    let billed = billed_kwh(Grains::zero(), difference);
     Ok(Account {
         days,
         target,

@@ -28,6 +28,12 @@ impl Grains {
         Some(Grains { count })
     }
 
+    pub fn zero() -> Grains
+        ensures { λ r. ⌜ r .count ≡ pos 0 ⌝ }
+    {
+        Grains { count: 0 }
+    }
+
     pub fn count(self) -> i128
         ensures { λ r. ⌜ r ≡ self .count ⌝ }
     {
