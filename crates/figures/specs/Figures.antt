@@ -15,6 +15,7 @@ use Rattle.calendar.specs.declared.Weekday.the-variants.{Monday}
 use Rattle.calendar.specs.Dates.{day-of}
 use Rattle.calendar.specs.Weeks.{weekday}
 use Rattle.calendar.specs.Kinds.{federal-kind}
+use Rattle.weather.specs.Temperatures.{temperature-row}
 
 abbrev pub date : ℕ → ℕ → ℕ → Date
 date y m d = record { year = y; month = m; day = d }
@@ -29,6 +30,10 @@ pub record Figures : Type 0 where
   -- Whit Monday, 28 May 2007, counts as a holiday
   pub whit-monday : day-of (date 2007 5 28) ≡ Some 2704
   pub whit-monday-kind : federal-kind 2704 ≡ Holiday
+  -- the row of a mean temperature, in tenths of a degree
+  pub just-below-zero : temperature-row (negsuc 4) ≡ Some 16
+  pub coldest : temperature-row (negsuc 170) ≡ Some 0
+  pub warmest : temperature-row (pos 180) ≡ Some 34
   -- bills at the beginning of use, within it, at its end, and over the whole of it
   pub at-the-beginning : first-bill 495 400 ≡ pos 95
   pub before-balancing : first-bill 0 140 ≡ negsuc 139

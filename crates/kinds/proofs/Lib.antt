@@ -1,0 +1,2 @@
+pub mod FlatRows
+pub mod TypedDays

@@ -1,0 +1,2 @@
+pub mod DayFactors
+pub mod Pairs

@@ -1,0 +1,5 @@
+pub mod Conds
+pub mod DayRowFacts
+pub mod DaySums
+pub mod Keeping
+pub mod Listed

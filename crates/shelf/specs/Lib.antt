@@ -1,0 +1,4 @@
+pub mod Meaning
+pub mod DayRows
+pub mod Targets
+pub mod Tells

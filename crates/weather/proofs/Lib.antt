@@ -1,0 +1,2 @@
+pub mod WeatherDays
+pub mod WeatherTells
