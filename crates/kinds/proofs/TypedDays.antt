@@ -1,6 +1,6 @@
 -- The law of typed profiles. Assumes nothing.
 use Prim.Native.Nat.{ℕ, _≤_, _<_}
-use mathlib.Core.Path.{_≡_, refl, sym, ap, _∙_}
+use mathlib.Core.Path.{_≡_, refl, ap, _∙_}
 use mathlib.Core.Bool.{cond}
 use mathlib.Core.List.{List}
 use lib.Dec.{ltb, leb}
@@ -16,7 +16,7 @@ use Rattle.std.specs.declared.result.Result.the-variants.{Err}
 use Rattle.units.specs.declared.refusal.Refusal.the-variants.{AlreadyKnown}
 use Rattle.calendar.specs.declared.kind.DayKind.{DayKind}
 use Rattle.calendar.specs.Seasons.{season}
-use Rattle.shelf.specs.Meaning.{Meaning, Fits, Lawful, tell-answer, told-answer}
+use Rattle.shelf.specs.Meaning.{Fits, Lawful, tell-answer, told-answer}
 use Rattle.shelf.proofs.Conds.{none-either}
 use Rattle.kinds.specs.declared.typed_profile.TypedProfile.{TypedProfile}
 use Rattle.kinds.specs.TypedProfiles.{typed-row}

@@ -1,5 +1,5 @@
 -- The law of a scaled shelf, its rows, and what a tell does to it. Assumes nothing.
-use Prim.Native.Nat.{ℕ, _+_, _*_, _/_, _≤_, _<_, min}
+use Prim.Native.Nat.{ℕ, _+_, _≤_, _<_}
 use mathlib.Core.Path.{_≡_, refl, sym, ap, _∙_, fun-ext}
 use mathlib.Core.Bool.{Bool, true, false, cond, _&&_}
 use mathlib.Core.List.{List, map, _++_, append-nil}
@@ -9,7 +9,7 @@ use lib.Dec.{eqb, ltb, leb}
 use lib.IntN.{ℤ}
 use lib.ListN.{length, getD, take, drop}
 use Rattle.std.proofs.shelf.Lists.{getD-past, getD-map, length-map, take-all, drop-all}
-use Rattle.std.proofs.shelf.Tests.{cases-lt, eqb-true, eq-eqb, ne-eqb, lt-ltb, le-ltb, le-leb, cond-true, cond-false, and-parts}
+use Rattle.std.proofs.shelf.Tests.{cases-lt, eqb-true, eq-eqb, cond-true, and-parts}
 use Rattle.std.specs.Options.{mapped}
 use Rattle.std.specs.Results.{isOk}
 use Rattle.std.specs.declared.option.Option.{Option}
@@ -17,7 +17,7 @@ use Rattle.std.specs.declared.option.Option.the-variants.{Some, None}
 use Rattle.std.specs.declared.result.Result.the-variants.{Err}
 use Rattle.units.specs.declared.refusal.Refusal.the-variants.{NotFound, NoSuchDate}
 use Rattle.calendar.specs.Dates.{day-of-year, on-days}
-use Rattle.shelf.specs.Meaning.{Meaning, Row, Capped, Fits, Lawful, at-quarter, quarter-of, tell-answer, tell-after, told-answer, with-day}
+use Rattle.shelf.specs.Meaning.{Meaning, Capped, Fits, Lawful, tell-answer, tell-after, told-answer, with-day}
 use Rattle.shelf.proofs.Conds.{some-if}
 use Rattle.layers.specs.DayFactors.{scaled, scaled-row, scale-at, factor-meaning}
 
@@ -79,18 +79,6 @@ factor-from factors d f e = sym (some-if (leb d 14609) (getD factors (day-of-yea
 pub scale-named : (named : ℕ) (factors : List ℕ) (p d f : ℕ) (row : Option (List ℕ)) → p ≡ named → Some f ≡ on-days d (getD factors (day-of-year d) 0) → mapped (scaled-row f) row ≡ scale-at named factors p d row
 scale-named named factors p d f row same factor =
     ap (λ x. mapped (scaled-row x) row) (factor-from factors d f factor) ∙ sym (cond-true (eqb p named) _ _ (eq-eqb p named same))
-
--- a quarter of a scaled row
-pub quarter-scaled : (m : Meaning) (p d f : ℕ) (row : Option (List ℕ)) (q v : ℕ) → Fits m p d row → quarter-of row q ≡ Some v → Some (scaled f v) ≡ quarter-of (mapped (scaled-row f) row) q
-quarter-scaled m p d f None q v fits e = let z : _≡_ {A = ℕ} 0 1 = cc in absurd (omega arith)
-quarter-scaled m p d f (Some values) q v fits e = ⊎-elim
-    (λ lt.
-    let read = cond-true (ltb q 96) (Some (getD values q 0)) None (lt-ltb q 96 lt) in
-    let is : v ≡ getD values q 0 = cc in
-    let short : q < length values = omega (arith, fits .2 .full) in
-    ap (λ n. Some (scaled f n)) is ∙ ap Some (sym (getD-map (scaled f) values q 0 0 short)) ∙ sym (cond-true (ltb q 96) _ None (lt-ltb q 96 lt)))
-    (λ ge. let off : None ≡ Some v = sym (cond-false (ltb q 96) (Some (getD values q 0)) None (le-ltb q 96 ge)) ∙ e in let z : _≡_ {A = ℕ} 0 1 = cc in absurd (omega arith))
-    (cases-lt q 96)
 
 -- all values are scaled at the end of a row
 pub scaled-all : (f : ℕ) (values : List ℕ) (i : ℕ) → length values ≤ i → map (scaled f) (take i values) ++ drop i values ≡ scaled-row f values

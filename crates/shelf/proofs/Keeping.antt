@@ -1,5 +1,5 @@
 -- What tells leave as it is. Assumes nothing.
-use Prim.Native.Nat.{ℕ, zero, suc, _+_, _-_, _*_, _≤_}
+use Prim.Native.Nat.{ℕ, zero, suc, _+_, _-_, _*_}
 use mathlib.Core.Path.{_≡_, refl, sym, ap, _∙_}
 use mathlib.Core.Bool.{Bool, true, false, cond}
 use mathlib.Core.List.{List, [], _∷_}
@@ -11,12 +11,10 @@ use Rattle.std.specs.Options.{mapped, okOr}
 use Rattle.std.specs.Results.{isOk}
 use Rattle.std.specs.declared.option.Option.{Option}
 use Rattle.std.specs.declared.option.Option.the-variants.{Some, None}
-use Rattle.std.specs.declared.result.Result.{Result}
 use Rattle.std.specs.declared.result.Result.the-variants.{Ok, Err}
-use Rattle.units.specs.declared.refusal.Refusal.{Refusal}
 use Rattle.units.specs.declared.refusal.Refusal.the-variants.{DayUnknown, OutOfRange, NoSuchDate}
 use Rattle.shelf.specs.Meaning.{Meaning, tell-answer, tell-after, with-day, day-sum}
-use Rattle.shelf.specs.Targets.{add-known, sum-over, balanced, stretch-target}
+use Rattle.shelf.specs.Targets.{add-known, sum-over, balanced}
 use Rattle.shelf.specs.Tells.{told-by, tells-after, Keeps, KeepsTargets}
 use Rattle.shelf.specs.declared.telling.Tell.{Tell}
 

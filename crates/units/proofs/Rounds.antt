@@ -8,7 +8,7 @@ use lib.Signed.{_≤ℤ_, _<ℤ_}
 use mir.Syntax.{w128}
 use mir.Val.{toZ, ofZ}
 use Rattle.std.proofs.shelf.Signed.{ints}
-use Rattle.units.specs.Energy.{floor-div, rounded, rest, billed, billed-in-turn, total, Rounded-once}
+use Rattle.units.specs.Energy.{floor-div, rounded, rest, billed-in-turn, total, Rounded-once}
 
 -- a number of grains lies within one kWh above its floor
 floor-near : (z : ℤ) → ((pos 40000000 *ℤ floor-div z 40000000) ≤ℤ z) × (z <ℤ ((pos 40000000 *ℤ floor-div z 40000000) +ℤ pos 40000000))

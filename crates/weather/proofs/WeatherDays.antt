@@ -7,15 +7,15 @@ use mathlib.Core.Logic.{⊎-elim}
 use native.Mathlib.Omega.{arith}
 use lib.Dec.{ltb, leb}
 use lib.IntN.{ℤ, pos, negsuc}
-use lib.ListN.{length, getD, set, length-set, replicate}
-use Rattle.std.proofs.shelf.Lists.{getD-past, getD-set-same, getD-set-other}
-use Rattle.std.proofs.shelf.Tests.{cases-lt, cases-eq, le-leb, lt-ltb, leb-true, ltb-true, and-from, and-parts, cond-both}
+use lib.ListN.{length, getD, set, replicate}
+use Rattle.std.proofs.shelf.Lists.{getD-set-same, getD-set-other}
+use Rattle.std.proofs.shelf.Tests.{cases-eq, le-leb, lt-ltb, leb-true, ltb-true, and-from, and-parts, cond-both}
 use Rattle.std.proofs.shelf.Ways.{tells}
 use Rattle.std.specs.Options.{mapped}
 use Rattle.std.specs.declared.option.Option.{Option}
 use Rattle.std.specs.declared.option.Option.the-variants.{Some, None}
 use Rattle.shelf.specs.declared.group.Group.{Group}
-use Rattle.shelf.specs.Meaning.{Meaning, Row, Fits, Lawful}
+use Rattle.shelf.specs.Meaning.{Row, Fits, Lawful}
 use Rattle.units.specs.Energy.{floor-div}
 use Rattle.weather.specs.Temperatures.{held, temperature-row}
 use Rattle.weather.specs.Weathers.{Chosen, holds, place, told-row, profile-row, weather-meaning}

@@ -1,6 +1,4 @@
-use Prim.Native.Nat.{_≤_}
 use native.Mathlib.Omega.{arith}
-use lib.ListN.{length}
 use Rattle.std.specs.Of.Vec.{vec-items}
 use Rattle.shelf.specs.DayRows.{rows-of}
 use Rattle.shelf.proofs.DayRowFacts.{rows-full}
