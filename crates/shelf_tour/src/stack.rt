@@ -80,7 +80,7 @@ fn factors() -> [u16; 366] {
     factors
 }
 
-pub fn stacked(heap: Global) -> Result<Stack, MakeError> {
+pub(crate) fn stacked(heap: Global) -> Result<Stack, MakeError> {
     let pair = Pair::new(typed(heap)?, weather(heap)?)?;
     Ok(DayFactor::new(pair, 2, factors())?)
 }
