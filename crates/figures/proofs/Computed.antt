@@ -22,6 +22,7 @@ figures = record {
   at-the-end = refl;
   at-the-end-later = refl;
   the-whole = refl;
+  unified-price = refl;
   half-up = refl;
   half-up-below-zero = refl;
   past-half-below-zero = refl;

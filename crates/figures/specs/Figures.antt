@@ -16,6 +16,7 @@ use Rattle.calendar.specs.Dates.{day-of}
 use Rattle.calendar.specs.Weeks.{weekday}
 use Rattle.calendar.specs.Kinds.{federal-kind}
 use Rattle.weather.specs.Temperatures.{temperature-row}
+use Rattle.price.specs.Rounding.{unified}
 
 abbrev pub date : ℕ → ℕ → ℕ → Date
 date y m d = record { year = y; month = m; day = d }
@@ -42,6 +43,8 @@ pub record Figures : Type 0 where
   pub at-the-end : first-bill 2715 2400 ≡ pos 315
   pub at-the-end-later : first-bill 2220 1850 ≡ pos 370
   pub the-whole : first-bill 2715 2705 ≡ pos 10
+  -- a cost of 57.007 euros for 998.97 kWh
+  pub unified-price : unified (pos 570070000) 99897 ≡ pos 571
   -- halves go up
   pub half-up : rounded (pos 20000000) ≡ pos 1
   pub half-up-below-zero : rounded (negsuc 19999999) ≡ pos 0

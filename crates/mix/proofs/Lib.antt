@@ -1,0 +1,3 @@
+pub mod SumLaws
+mod LoadLaws
+mod Tables

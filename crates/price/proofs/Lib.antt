@@ -1,0 +1,6 @@
+mod SignedSums
+mod Signs
+mod Spans
+mod PriceSizes
+mod Floors
+mod AverageLaws

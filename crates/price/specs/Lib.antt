@@ -1,0 +1,4 @@
+pub mod Windows
+pub mod Prices
+pub mod Rounding
+pub mod Answers
