@@ -7,7 +7,7 @@ pub const FIRST: u32 = 0;
 
 const DAYS: usize = 366;
 
-pub fn two_tariffs(heap: Global) -> Result<Vec<Option<i32>>, AnyError> {
+pub(crate) fn two_tariffs(heap: Global) -> Result<Vec<Option<i32>>, AnyError> {
     let mut hours = Vec::new(heap);
     for hour in 0..24 * DAYS {
         let place = hour % 24;
