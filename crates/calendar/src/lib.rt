@@ -1,4 +1,6 @@
 // Days, months and dates of 2000 to 2039, and the calendars that give each day its kind.
+#![tactic(auto)]
+
 mod date;
 mod easter;
 mod extra_days;

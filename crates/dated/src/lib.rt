@@ -1,4 +1,5 @@
 // The one look-up of dated records: of one owner, the latest not after a date.
+#![tactic(auto)]
 ghost use Rattle.std.specs.Prelude.{◌≡◌, ℕ, ◌<◌, ◌≤◌};
 ghost use Rattle.dated.specs.Dates.{later, latest, Latest, nearer, Same};
 

@@ -1,4 +1,6 @@
 // Exchange prices of hours, whatever holds them.
+#![tactic(auto)]
+
 mod feeds;
 mod flat_feed;
 mod hour_table;

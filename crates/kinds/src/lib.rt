@@ -1,4 +1,6 @@
 // Shelves that know every day of their load profiles by themselves.
+#![tactic(auto)]
+
 mod flat;
 mod typed;
 mod typed_profile;

@@ -1,4 +1,6 @@
 // Shelves over other shelves, in any order and depth.
+#![tactic(auto)]
+
 mod day_factor;
 mod pair;
 

@@ -1,4 +1,5 @@
 // The records that settlement keeps, and the quantities that come from them.
+#![tactic(auto)]
 mod records;
 mod tables;
 

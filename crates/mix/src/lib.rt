@@ -1,4 +1,6 @@
 // Mixes of load profiles, by which a group's price is weighted.
+#![tactic(auto)]
+
 mod mixes;
 mod share;
 

@@ -1,4 +1,6 @@
 // The unified price of a group of load profiles, from its mix and the exchange prices of twelve months.
+#![tactic(auto)]
+
 mod asked;
 mod laws;
 mod pricing;

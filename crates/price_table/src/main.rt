@@ -1,4 +1,6 @@
 // Recomputes the yearly prices of the published table from its monthly energies and costs, and prints both side by side.
+#![tactic(auto)]
+
 ghost use Rattle.std.specs.Prelude.{◌≤◌, Ok, Err};
 
 mod published;

@@ -1,4 +1,6 @@
 // Prices made-up mixes by made-up feeds, and prints the answers.
+#![tactic(auto)]
+
 mod tariffs;
 
 use anyhow::anyhow;

@@ -1,4 +1,5 @@
 // What a book of yearly settlement promises over whole runs of its calls: the statement, and its theorem.
+#![tactic(auto)]
 ghost use Rattle.promise.specs.Promise.{Promise};
 
 mod bill_state;

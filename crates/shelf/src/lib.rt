@@ -1,4 +1,6 @@
 // Load profiles as they can be asked and told, whatever holds them.
+#![tactic(auto)]
+
 mod bounds;
 mod day_row;
 mod group;

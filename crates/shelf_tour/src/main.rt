@@ -1,4 +1,6 @@
 // Stacks shelves of made-up profiles, tells them days, and prints what they answer.
+#![tactic(auto)]
+
 mod stack;
 
 use shelf::{Shelf, Tell, TellShelf, stretch_target, tell_all};

@@ -9,7 +9,7 @@
 --     total                 differences added up
 --     RoundedOnce          however a delivery is cut into bills, their kWh add up to its exact figure rounded once
 -- Assumes nothing.
-use Rattle.std.specs.Prelude.{◌≡◌, ℕ, suc, ◌*◌, ◌/◌, List, [], ◌∷◌, ℤ, pos, negsuc, ◌+ℤ◌, ◌-ℤ◌, ◌*ℤ◌}
+use Rattle.std.specs.Prelude.{◌≡◌, ℕ, suc, ◌/◌, List, [], ◌∷◌, ℤ, pos, negsuc, ◌+ℤ◌, ◌-ℤ◌, ◌*ℤ◌}
 
 abbrev pub floor_div : ℤ → ℕ → ℤ
 floor_div (pos a) n = pos (a / n)

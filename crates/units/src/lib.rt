@@ -1,4 +1,6 @@
 // The units of settlement, each a type of its own, and the refusals.
+#![tactic(auto)]
+
 mod energy;
 mod make_error;
 mod money;

@@ -1,4 +1,6 @@
 // Settles one supplier's period through the library, and prints an account that a clerk can follow.
+#![tactic(auto)]
+
 mod period;
 mod settling;
 mod shown;

@@ -1,4 +1,6 @@
 // Shelves of temperature-dependent load profiles.
+#![tactic(auto)]
+
 mod temperature;
 mod weather;
 
