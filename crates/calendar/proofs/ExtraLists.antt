@@ -1,10 +1,9 @@
 -- Lists of extra days. Assumes nothing.
-use Rattle.std.proofs.Common.{◌≡◌, ℕ, suc, ◌+◌, ◌<◌, ◌≤◌, Bool, true, false, eqb, List, [], ◌∷◌, length, get_or, drop, Decides, refl, subst, ⊎_elim, add-one, arith}
-use Rattle.std.specs.List.{IsAnyAnswer}
-use Rattle.std.proofs.lemmas.List.Elements.{contains_decides}
+use Rattle.std.proofs.Common.{◌≡◌, ℕ, suc, ◌+◌, ◌<◌, ◌≤◌, true, false, eqb, List, [], ◌∷◌, length, get_or, drop, ◌||◌, refl, ap, subst, ⊎_elim, add-one, arith}
+use Rattle.std.specs.List.{list_any}
 use Rattle.std.proofs.lemmas.List.{at_drop_more}
 use Rattle.std.proofs.lemmas.Bool.{and_parts, or_cases, eqb-true, leb-true, le-leb}
-use Rattle.std.proofs.lemmas.Bool.Decides.{Decides-by_or, Decides-eqb, same_from_decides, nat_tests}
+use Rattle.std.proofs.lemmas.Bool.Decides.{nat_tests}
 use Rattle.calendar.specs.ExtraDays.{rising, among}
 
 -- a day in its place leaves the later ones to look at
@@ -18,8 +17,9 @@ rising_not low i xs h out =
     rw (at_drop_more (rising low) xs i 0 h) (grind (arith, nat_tests))
 
 -- what `contains` answers
-pub among_is : (n : ℕ) (xs : List ℕ) (r : Bool) → IsAnyAnswer (λ x t. Decides t (x ≡ n)) xs r → r ≡ among n xs
-among_is n xs r h = same_from_decides r (among n xs) (contains_decides eqb Decides-eqb xs n r h) (Decides-by_or (λ x. eqb x n) (λ x. x ≡ n) (among n) (λ x. Decides-eqb x n) refl (λ _ _. refl) xs)
+pub among_is : (n : ℕ) (xs : List ℕ) → list_any (λ x. eqb x n) xs ≡ among n xs
+among_is n [] = refl
+among_is n (x ∷ xs) = ap (λ t. eqb x n || t) (among_is n xs)
 
 -- a day among days in order is not past the last
 pub among_known : (n low : ℕ) (xs : List ℕ) → rising low xs ≡ true → among n xs ≡ true → n ≤ 14609

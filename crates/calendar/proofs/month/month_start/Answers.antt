@@ -8,7 +8,7 @@ use Rattle.calendar.proofs.month.month_start.Goals.{then-place-ge2+then-year-eq0
 pub returns : goal.returns
 returns c =
     let k = c.args.month in
-    let one : c.if-place-ge2.leap-day ≡ cond (leb 2 (k % 12) && eqb (k / 12 % 4) 0) 1 0 =
+    let one : c.if-place-ge2.leap_day ≡ cond (leb 2 (k % 12) && eqb (k / 12 % 4) 0) 1 0 =
     elim c.if-place-ge2.branch [
       | then-place-ge2+then-year-eq0 w ↦ grind (arith, nat_tests)
       | else-place-ge2 w ↦

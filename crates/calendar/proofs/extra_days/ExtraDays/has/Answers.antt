@@ -6,5 +6,5 @@ use Rattle.calendar.proofs.extra_days.ExtraDays.has.Goals as goal
 
 pub returns : goal.returns
 returns g c =
-    let is = among_is _ _ _ c.contains.ensures.cases ∙ ap (among c.args.day) c.deref.ensures.value in
+    let is = c.contains.ensures.value ∙ among_is c.args.day _ ∙ ap (among c.args.day) c.deref.ensures.value in
     record { is = is; known = λ t. among_known c.args.day 0 _ (and_parts _ _ c.args.self.now.good).1 (sym is ∙ t) }
