@@ -8,7 +8,7 @@ use mix::Mix;
 use shelf::Shelf;
 
 pub(crate) fn all_known<S: Shelf>(shelf: &S, mix: &Mix, window: Window) -> bool
-    ensures { result ≡ all_known (meaning shelf.now) mix.now window.first window.days }
+    ensures { result ≡ all_known (S.meaning shelf.now) mix.now window.first window.days }
 {
     for i in 0..window.days {
         if !mix.known_on(shelf, window.first + i) {
@@ -19,7 +19,7 @@ pub(crate) fn all_known<S: Shelf>(shelf: &S, mix: &Mix, window: Window) -> bool
 }
 
 fn day_priced<F: Feed>(feed: &F, day: u32) -> bool
-    ensures { result ≡ day_priced (prices feed.now) day }
+    ensures { result ≡ day_priced (F.prices feed.now) day }
 {
     for hour in 0..24 {
         if feed.price(day, hour).is_none() {
@@ -30,7 +30,7 @@ fn day_priced<F: Feed>(feed: &F, day: u32) -> bool
 }
 
 pub(crate) fn all_priced<F: Feed>(feed: &F, window: Window) -> bool
-    ensures { result ≡ all_priced (prices feed.now) window.first window.days }
+    ensures { result ≡ all_priced (F.prices feed.now) window.first window.days }
 {
     for i in 0..window.days {
         if !day_priced(feed, window.first + i) {

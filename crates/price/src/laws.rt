@@ -16,7 +16,7 @@ pub fn flat_unified_price<S: Shelf>(
     mix: &Mix,
     month: u32,
 ) -> Result<UnifiedPrice, Refusal>
-    ensures answer { told result ≡ unified_answer (meaning shelf.now) (flat_prices feed.now.price) mix.now month }
+    ensures answer { told result ≡ unified_answer (S.meaning shelf.now) (flat_prices feed.now.price) mix.now month }
     ensures rounds { Rounds feed.now.price (told result) }
 {
     unified_price(shelf, feed, mix, month)

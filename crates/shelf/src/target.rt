@@ -17,7 +17,7 @@ pub fn stretch_target<S: Shelf>(
     from: u32,
     to: u32,
 ) -> Result<Grains, Refusal>
-    ensures { counted result ≡ stretch_target (meaning shelf.now) profile forecast from to }
+    ensures { counted result ≡ stretch_target (S.meaning shelf.now) profile forecast from to }
 {
     if to > LAST_DAY {
         return Err(Refusal::NoSuchDate);

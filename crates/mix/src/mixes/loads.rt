@@ -14,7 +14,7 @@ impl Mix {
 
     // Whether each of its profiles is known on a day.
     pub fn known_on<S: Shelf>(&self, shelf: &S, day: u32) -> bool
-        ensures { result ≡ known_on (meaning shelf.now) self.now day }
+        ensures { result ≡ known_on (S.meaning shelf.now) self.now day }
     {
         for i in 0..self.count {
             if shelf.value(self.profiles[i], day, 0).is_none() {
@@ -26,7 +26,7 @@ impl Mix {
 
     // Percentage times value in a quarter hour, added over its profiles; what is unknown counts 0.
     pub fn load<S: Shelf>(&self, shelf: &S, day: u32, quarter: u32) -> u32
-        ensures value { result ≡ load (meaning shelf.now) self.now day quarter }
+        ensures value { result ≡ load (S.meaning shelf.now) self.now day quarter }
         ensures bound { result ≤ 999900 }
     {
         let mut sum: u32 = 0;

@@ -11,7 +11,7 @@ use units::Refusal;
 const MOST_SHARES: usize = 8;
 
 fn share_fits<S: Shelf>(shelf: &S, group: Group, share: Share) -> bool
-    ensures { Decides result (ShareFits (meaning shelf.now) group share) }
+    ensures { Decides result (ShareFits (S.meaning shelf.now) group share) }
 {
     if share.percent < 1 {
         return false;
@@ -24,7 +24,7 @@ fn share_fits<S: Shelf>(shelf: &S, group: Group, share: Share) -> bool
 }
 
 fn shares_fit<S: Shelf>(shelf: &S, group: Group, shares: &[Share]) -> bool
-    ensures { Decides result (SharesFit (meaning shelf.now) group shares.now) }
+    ensures { Decides result (SharesFit (S.meaning shelf.now) group shares.now) }
 {
     for share in shares {
         if !share_fits(shelf, group, *share) {
@@ -46,7 +46,7 @@ fn percent_sum(shares: &[Share]) -> u32
 }
 
 fn mix_fits<S: Shelf>(shelf: &S, group: Group, shares: &[Share]) -> bool
-    ensures { Decides result (MixFits (meaning shelf.now) group shares.now) }
+    ensures { Decides result (MixFits (S.meaning shelf.now) group shares.now) }
 {
     if shares.len() < 1 || shares.len() > MOST_SHARES {
         return false;
@@ -76,7 +76,7 @@ fn filled(group: Group, shares: &[Share]) -> Mix
 impl Mix {
     // A profile may be named twice.
     pub fn new<S: Shelf>(shelf: &S, group: Group, shares: &[Share]) -> Result<Mix, Refusal>
-        ensures { Makes (MixFits (meaning shelf.now) group shares.now) (λ mix. Holds group shares.now mix) result }
+        ensures { Makes (MixFits (S.meaning shelf.now) group shares.now) (λ mix. Holds group shares.now mix) result }
     {
         if !mix_fits(shelf, group, shares) {
             return Err(Refusal::RuleBroken);

@@ -6,8 +6,8 @@ use Rattle.shelf.proofs.target.stretch_target.Goals as goal
 pub add-target-requires : goal.add-target-requires
 add-target-requires g c =
     let shelf = c.args.shelf.now in
-    let small = part_bound (g.S.Shelf.meaning shelf) c.args.profile c.args.forecast c.loop-day.day c.in-Some.day_sum (g.met.S.Shelf.lawful shelf) c.if-forecast-gt-LARGEST-FORECAST.false (sym c.in-Some.is ∙ c.day_sum.ensures) in
-    grains_held _ _ c.loop-day.invariant.0 _ c.loop-day.invariant.1.0 c.on-day.ensures (omega (arith, small))
+    let small = part_bound (g.S.Shelf.meaning shelf) c.args.profile c.args.forecast c.loop-day.day c.in-Some.day_sum (g.met.S.Shelf.lawful shelf) c.if-forecast-gt-LARGEST_FORECAST.false (sym c.in-Some.is ∙ c.day_sum.ensures) in
+    grains_held _ _ c.loop-day.invariant.0 _ c.loop-day.invariant.1.0 c.on_day.ensures (omega (arith, small))
 
 pub loop-day-init : goal.loop-day-init
 loop-day-init g c = (0, (c.zero-target.ensures, sum_over_none _ _ _ (omega arith), omega arith, omega arith))
@@ -18,24 +18,24 @@ loop-day-preserved g c =
     let m = g.S.Shelf.meaning shelf in
     let day = c.loop-day.day in
     let summed : Some c.in-Some.day_sum ≡ _ = sym c.in-Some.is ∙ c.day_sum.ensures in
-    let small = part_bound m c.args.profile c.args.forecast day c.in-Some.day_sum (g.met.S.Shelf.lawful shelf) c.if-forecast-gt-LARGEST-FORECAST.false summed in
+    let small = part_bound m c.args.profile c.args.forecast day c.in-Some.day_sum (g.met.S.Shelf.lawful shelf) c.if-forecast-gt-LARGEST_FORECAST.false summed in
     let here = balanced_from m c.args.profile c.args.forecast day (Some c.in-Some.day_sum) summed in (
       c.loop-day.invariant.0 + c.args.forecast * c.in-Some.day_sum,
       (
-        c.add-target.ensures ∙ grains_added _ _ c.loop-day.invariant.0 _ c.loop-day.invariant.1.0 c.on-day.ensures,
+        c.add-target.ensures ∙ grains_added _ _ c.loop-day.invariant.0 _ c.loop-day.invariant.1.0 c.on_day.ensures,
         sum_over_more (balanced m c.args.profile c.args.forecast) c.args.from day c.loop-day.invariant.0 _ (omega arith) c.loop-day.invariant.1.1 here,
         omega (arith, small),
         omega arith,
       ),
     )
 
-pub returns-in-default : goal.returns-in-default
-returns-in-default g c =
+pub returns-in_default : goal.returns-in_default
+returns-in_default g c =
     let m = g.S.Shelf.meaning c.args.shelf.now in
     let p = c.args.profile in
     let forecast = c.args.forecast in
-    let here = balanced_from m p forecast c.loop-day.day None (sym c.in-default.is ∙ c.day_sum.ensures) in
-    stretch_answer m p forecast c.args.from c.args.to c.if-to-gt-LAST-DAY.false c.if-forecast-gt-LARGEST-FORECAST.false None (sym (sum_over_unknown (balanced m p forecast) c.args.from c.loop-day.day c.args.to (omega arith) (omega arith) here))
+    let here = balanced_from m p forecast c.loop-day.day None (sym c.in_default.is ∙ c.day_sum.ensures) in
+    stretch_answer m p forecast c.args.from c.args.to c.if-to-gt-LAST_DAY.false c.if-forecast-gt-LARGEST_FORECAST.false None (sym (sum_over_unknown (balanced m p forecast) c.args.from c.loop-day.day c.args.to (omega arith) (omega arith) here))
 
 pub returns : goal.returns
 returns g c =
@@ -43,4 +43,4 @@ returns g c =
     let p = c.args.profile in
     let forecast = c.args.forecast in
     let all : c.loop-day.day - c.args.from ≡ c.args.to + 1 - c.args.from = omega arith in
-    ap Ok c.loop-day.invariant.1.0 ∙ stretch_answer m p forecast c.args.from c.args.to c.if-to-gt-LAST-DAY.false c.if-forecast-gt-LARGEST-FORECAST.false (Some c.loop-day.invariant.0) (c.loop-day.invariant.1.1 ∙ ap (sum_over (balanced m p forecast) c.args.from) all)
+    ap Ok c.loop-day.invariant.1.0 ∙ stretch_answer m p forecast c.args.from c.args.to c.if-to-gt-LAST_DAY.false c.if-forecast-gt-LARGEST_FORECAST.false (Some c.loop-day.invariant.0) (c.loop-day.invariant.1.1 ∙ ap (sum_over (balanced m p forecast) c.args.from) all)

@@ -3,8 +3,8 @@ use Rattle.std.proofs.lemmas.List.Sums.{sum_by_more}
 use Rattle.shelf.specs.Meaning.{day_sum}
 use Rattle.shelf.proofs.day_row.DayRow.sum.Goals as goal
 
-pub overflow-add-sum : goal.overflow-add-sum
-overflow-add-sum c = omega (arith, c.args.self.now.capped c.loop-value.value-index)
+pub overflow_add-sum : goal.overflow_add-sum
+overflow_add-sum c = omega (arith, c.args.self.now.capped c.loop-value.value-index)
 
 pub loop-value-preserved : goal.loop-value-preserved
 loop-value-preserved c =
