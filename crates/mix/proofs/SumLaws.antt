@@ -1,5 +1,5 @@
 -- Laws of sums and tests over the numbers below n. Assumes nothing.
-use Rattle.std.proofs.Common.{◌≡◌, ℕ, zero, suc, ◌+◌, ◌-◌, ◌<◌, Bool, true, false, sym, refl, ap, ◌∙◌, ⊎_elim, not-suc-le-zero, add-one, arith}
+use Rattle.std.proofs.Common.{◌≡◌, ℕ, zero, suc, ◌+◌, ◌<◌, Bool, true, false, sym, refl, ap, ◌∙◌, ⊎_elim, not-suc-le-zero, add-one, arith}
 use Rattle.std.proofs.lemmas.Bool.{and_left, and_right, and_parts, cases_lt}
 use Rattle.mix.specs.Sums.{sum_to, all_to}
 

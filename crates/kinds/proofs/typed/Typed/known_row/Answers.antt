@@ -22,7 +22,7 @@ returns g c =
     let profiles = vec_items s.profiles in
     let x = c.index.result.now in
     let short : p < length profiles = omega arith in
-    let in_season = some_if (leb d 14609) (season d) c.in-Some.season (sym c.season-of.ensures ∙ c.in-Some.is) in
+    let in_season = some_if (leb d 14609) (season d) c.in-Some.season (sym c.season_of.ensures ∙ c.in-Some.is) in
     let of_kind = some_if (leb d 14609) (kinds d) c.in-Some-kind.kind (sym c.kind.ensures ∙ c.in-Some-kind.is) in
     let known = typed_known kinds profiles p d x (slice_get_read profiles (length profiles) p x refl short c.index.ensures) (leb-true d 14609 in_season.0) in
     ap (λ r. Some r.values) (c.row.ensures ∙ ap (λ y. typed_row x y c.in-Some-kind.kind) (sym in_season.1) ∙ ap (typed_row x (season d)) (sym of_kind.1)) ∙ sym known

@@ -11,5 +11,5 @@ returns g c =
     let kinds = g.C.Calendar.kinds s.calendar in
     let profiles = vec_items s.profiles in
     let in_p : c.args.profile < length profiles = omega arith in
-    let told = typed_told kinds profiles c.args.profile c.args.day c.args.number in_p c.if-day-gt-LAST-DAY.false in
+    let told = typed_told kinds profiles c.args.profile c.args.day c.args.number in_p c.if-day-gt-LAST_DAY.false in
     record { answer = sym told; after = refused_after (typed_meaning kinds profiles) c.args.profile c.args.day c.args.number AlreadyKnown told; kept = λ _. refl }

@@ -13,7 +13,7 @@ returns g c =
     let p = c.args.profile in
     let d = c.args.day in
     let m = g.A.Shelf.meaning s.below in
-    let f = c.in-Some-factor-on.factor in
+    let f = c.in-Some-factor_on.factor in
     let values = c.in-Some.row.values in
     let P : List ℕ → Type 0 = λ x. Capped x in
     let capped = subst P (sym c.scaled_row.ensures) (scaled_capped f values) in
@@ -22,4 +22,4 @@ returns g c =
     ∙ row_made c.scaled_row.result c.new.result c.new.ensures capped
     ∙ ap Some c.scaled_row.ensures
     ∙ ap (option_map (scaled_row f)) known
-    ∙ scale_named s.profile s.factors p d f (m.known p d) c.if-profile-self.false (sym c.in-Some-factor-on.is ∙ c.factor-on.ensures)
+    ∙ scale_named s.profile s.factors p d f (m.known p d) c.if-profile-self.false (sym c.in-Some-factor_on.is ∙ c.factor_on.ensures)

@@ -19,16 +19,16 @@ returns-then-profile-n g c =
       kept = λ refused. ap (λ x. record { first = x; second = s.second }) (c.tell.ensures.kept refused);
     }
 
-pub returns-then-profile-lt-MOST-PROFILES : goal.returns-then-profile-lt-MOST-PROFILES
-returns-then-profile-lt-MOST-PROFILES g c =
+pub returns-then-profile-lt-MOST_PROFILES : goal.returns-then-profile-lt-MOST_PROFILES
+returns-then-profile-lt-MOST_PROFILES g c =
     let s = c.args.self.now in
     let a = g.A.Shelf.meaning s.first in
     let b = g.B.Shelf.meaning s.second in
-    let told = c.tell-then-profile-lt-MOST-PROFILES.ensures in
+    let told = c.tell-then-profile-lt-MOST_PROFILES.ensures in
     let passed = to_z-of_z w32 c.args.number c.ranges.number in
     let q = c.args.profile - c.count-n.result in
     record {
-      answer = told.answer ∙ ap (tell_answer b q c.args.day) passed ∙ answer_second_at a b c.args.profile c.args.day c.args.number _ c.count-n.ensures c.if-profile-n.false c.if-profile-lt-MOST-PROFILES.true;
-      after = ap (pair_meaning a) (told.after ∙ ap (tell_after b q c.args.day) passed) ∙ after_second_at a b c.args.profile c.args.day c.args.number _ c.count-n.ensures c.if-profile-n.false c.if-profile-lt-MOST-PROFILES.true;
+      answer = told.answer ∙ ap (tell_answer b q c.args.day) passed ∙ answer_second_at a b c.args.profile c.args.day c.args.number _ c.count-n.ensures c.if-profile-n.false c.if-profile-lt-MOST_PROFILES.true;
+      after = ap (pair_meaning a) (told.after ∙ ap (tell_after b q c.args.day) passed) ∙ after_second_at a b c.args.profile c.args.day c.args.number _ c.count-n.ensures c.if-profile-n.false c.if-profile-lt-MOST_PROFILES.true;
       kept = λ refused. ap (λ x. record { first = s.first; second = x }) (told.kept refused);
     }

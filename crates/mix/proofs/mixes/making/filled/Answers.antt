@@ -6,5 +6,5 @@ use Rattle.mix.proofs.mixes.making.filled.Goals as goal
 pub loop-i-preserved : goal.loop-i-preserved
 loop-i-preserved c = filled_more c.args.shares.now c.loop-i.i c.loop-i.profiles c.loop-i.percents (omega arith) c.loop-i-test.true c.loop-i.invariant
 
-pub invariant-of-result : goal.invariant-of-result
-invariant-of-result c = (c.requires.few, (c.loop-i.invariant.adds ∙ ap percent_sum (take_all c.loop-i.i c.args.shares.now c.loop-i-test.false) ∙ c.requires.whole, tt))
+pub invariant_of-result : goal.invariant_of-result
+invariant_of-result c = record { few = c.requires.few; whole = c.loop-i.invariant.adds ∙ ap percent_sum (take_all c.loop-i.i c.args.shares.now c.loop-i-test.false) ∙ c.requires.whole }

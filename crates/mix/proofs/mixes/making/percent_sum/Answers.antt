@@ -3,8 +3,8 @@ use Rattle.std.proofs.lemmas.List.Sums.{sum_by_more}
 use Rattle.mix.specs.Mixes.{percent_sum, no_share}
 use Rattle.mix.proofs.mixes.making.percent_sum.Goals as goal
 
-pub overflow-add-sum : goal.overflow-add-sum
-overflow-add-sum c =
+pub overflow_add-sum : goal.overflow_add-sum
+overflow_add-sum c =
     let small : (get_or c.args.shares.now c.loop-share.share-index no_share).percent < 256 = search rules in
     omega arith
 

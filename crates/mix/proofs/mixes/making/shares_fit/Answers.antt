@@ -7,10 +7,10 @@ pub loop-share-init : goal.loop-share-init
 loop-share-init g c = below_none (λ i. ShareFits (g.S.Shelf.meaning c.args.shelf.now) c.args.group (get_or c.args.shares.now i no_share))
 
 pub loop-share-preserved : goal.loop-share-preserved
-loop-share-preserved g c = below_more (λ i. ShareFits (g.S.Shelf.meaning c.args.shelf.now) c.args.group (get_or c.args.shares.now i no_share)) c.loop-share.share-index c.loop-share.invariant (c.if-not-share-fits.ensures.0 refl)
+loop-share-preserved g c = below_more (λ i. ShareFits (g.S.Shelf.meaning c.args.shelf.now) c.args.group (get_or c.args.shares.now i no_share)) c.loop-share.share-index c.loop-share.invariant (c.if-not-share_fits.ensures.0 refl)
 
-pub returns-then-not-share-fits : goal.returns-then-not-share-fits
-returns-then-not-share-fits g c = (λ e. absurd (false≢true e), λ all. c.if-not-share-fits.ensures.1 (all c.loop-share.share-index c.loop-share-test.true))
+pub returns-then-not-share_fits : goal.returns-then-not-share_fits
+returns-then-not-share_fits g c = (λ e. absurd (false≢true e), λ all. c.if-not-share_fits.ensures.1 (all c.loop-share.share-index c.loop-share-test.true))
 
 pub returns : goal.returns
 returns g c = (λ _ i h. c.loop-share.invariant i (omega arith), λ _. refl)
