@@ -9,7 +9,7 @@
 --     Averages ps month r             a price is an average: it is near every low and high that the prices of its months are within
 --     Rounds p r                      a price is p in hundredths of a cent per kWh, halves up
 -- Assumes nothing.
-use Rattle.std.specs.Prelude.{◌≡◌, ℕ, ◌+◌, ◌<◌, ◌≤◌, cond, ◌&&◌, ℤ, pos, ◌+ℤ◌, ◌*ℤ◌, ◌≤ℤ◌, ◌<ℤ◌, Some, Ok, Err, Result, ◌==◌, nat_le}
+use Rattle.std.specs.Prelude.{◌≡◌, ℕ, ◌+◌, ◌<◌, cond, ◌&&◌, ℤ, pos, ◌+ℤ◌, ◌*ℤ◌, ◌≤ℤ◌, ◌<ℤ◌, Some, Ok, Err, Result, ◌==◌, nat_le}
 use Rattle.std.specs.Result.{result_map_both}
 use Rattle.units.specs.declared.Refusal.{Refusal}
 use Rattle.units.specs.declared.Refusal.TheVariants.{OutOfRange, DayUnknown, HourMissing, NoEnergy}

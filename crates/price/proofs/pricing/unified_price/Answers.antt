@@ -13,8 +13,8 @@ returns g c =
     let month = c.args.month in
     let window = c.in-Some.window in
     let made = c.in-Some.ensures in
-    let answer : told c.price-over.result ≡ unified_answer m prices mix month =
-    c.price-over.ensures
+    let answer : told c.price_over.result ≡ unified_answer m prices mix month =
+    c.price_over.ensures
     ∙ ap (λ first. window_answer m prices mix first window.days) made.1
     ∙ ap (window_answer m prices mix (window_start month)) made.2
     ∙ sym (cond-true _ _ _ (and_from (leb 13 month) (leb month 479) (le-leb 13 month made.0.0) (le-leb month 479 made.0.1)))
