@@ -3,9 +3,9 @@ use Rattle.std.proofs.Common.{◌≡◌, ℕ, ◌+◌, ◌<◌, ◌≤◌, Bool,
 use Rattle.std.specs.Option.{option_map}
 use Rattle.std.specs.List.{AllByRecursion as All}
 use Rattle.std.proofs.lemmas.List.Sums.{fold_more, fold_push}
-use Rattle.std.proofs.lemmas.Bool.{and_parts, eqb-true, leb-true, leb-false, eq-eqb, le-leb}
+use Rattle.std.proofs.lemmas.Bool.{eqb-true, leb-true, leb-false, eq-eqb}
 use Rattle.std.proofs.lemmas.Bool.Decides.{nat_tests}
-use Rattle.dated.specs.Dates.{no_earlier, later, latest, OneOf, Newest, Latest, nearer, Same}
+use Rattle.dated.specs.Dates.{no_earlier, later, latest, OneOf, Latest, nearer, Same}
 
 module _ {X : Type 0} (own date : X → ℕ) (who : ℕ) where
   pub latest_none : (x : ℕ) (es : List X) → latest own date who x (take 0 es) ≡ None
