@@ -1,7 +1,7 @@
 -- Laws of the dated look-up. Assumes nothing.
 use Rattle.std.proofs.Common.{◌≡◌, ℕ, ◌+◌, ◌<◌, ◌≤◌, Bool, true, false, cond, ◌&&◌, eqb, leb, ◌⊎◌, List, [], ◌∷◌, ◌++◌, map, length, get_or, take, Some, None, fold, Option, sym, refl, ap, ◌∙◌, inl, inr, ⊎_elim, arith}
 use Rattle.std.specs.Option.{option_map}
-use Rattle.std.specs.List.{AllByRecursion as All}
+use Rattle.std.specs.List.{AllByRecursion}
 use Rattle.std.proofs.lemmas.List.Sums.{fold_more, fold_push}
 use Rattle.std.proofs.lemmas.Bool.{eqb-true, leb-true, leb-false, eq-eqb}
 use Rattle.std.proofs.lemmas.Bool.Decides.{nat_tests}
@@ -55,7 +55,7 @@ module _ {X : Type 0} (own date : X → ℕ) (who x : ℕ) where
     pub owned : own r ≡ who
     pub not_after : date r ≤ x
     pub not_before : date b ≤ date r
-    pub none_later : All (λ e. own e ≡ who → date e ≤ x → date e ≤ date r) es
+    pub none_later : AllByRecursion (λ e. own e ≡ who → date e ≤ x → date e ≤ date r) es
 
   abbrev Over : Option X → List X → Option X → Type 0
   Over None es r = Latest own date who x es r

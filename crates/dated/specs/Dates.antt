@@ -7,7 +7,7 @@
 --     Same own date who es x next      up to the day before next the look-up finds what it finds at x
 -- Assumes nothing.
 use Rattle.std.specs.Prelude.{◌≡◌, ℕ, ◌<◌, ◌≤◌, min, Bool, true, cond, ◌&&◌, ◌⊎◌, List, [], ◌∷◌, Some, None, fold, Option, ◌==◌, nat_le, nat_lt}
-use Rattle.std.specs.List.{AllByRecursion as All}
+use Rattle.std.specs.List.{AllByRecursion}
 
 abbrev pub no_earlier : {X : Type 0} → (X → ℕ) → Option X → X → Bool
 no_earlier date None e = true
@@ -27,10 +27,10 @@ pub record Newest {X : Type 0} (own date : X → ℕ) (who x : ℕ) (es : List X
   pub one : OneOf es r
   pub owned : own r ≡ who
   pub not_after : date r ≤ x
-  pub none_later : All (λ e. own e ≡ who → date e ≤ x → date e ≤ date r) es
+  pub none_later : AllByRecursion (λ e. own e ≡ who → date e ≤ x → date e ≤ date r) es
 
 abbrev pub Latest : {X : Type 0} → (X → ℕ) → (X → ℕ) → ℕ → ℕ → List X → Option X → Type 0
-Latest own date who x es None = All (λ e. own e ≡ who → x < date e) es
+Latest own date who x es None = AllByRecursion (λ e. own e ≡ who → x < date e) es
 Latest own date who x es (Some r) = Newest own date who x es r
 
 abbrev pub nearer : {X : Type 0} → (X → ℕ) → (X → ℕ) → ℕ → ℕ → ℕ → X → ℕ
