@@ -7,7 +7,7 @@
 --     billed before d       the kWh of a bill with the difference d, where the delivery's other standing bills have differences that add up to `before`
 --     billed_in_turn        the kWh of bills with these differences, made one after the other, added up
 --     total                 differences added up
---     RoundedOnce          however a delivery is cut into bills, their kWh add up to its exact figure rounded once
+--     RoundedOnce           however a delivery is cut into bills, their kWh add up to its exact figure rounded once
 -- Assumes nothing.
 use Rattle.std.specs.Prelude.{◌≡◌, ℕ, suc, ◌/◌, List, [], ◌∷◌, ℤ, pos, negsuc, ◌+ℤ◌, ◌-ℤ◌, ◌*ℤ◌}
 
