@@ -1,19 +1,14 @@
 -- Easter in the years from 2000 to 2039. Assumes nothing.
 use Rattle.std.proofs.Common.{◌≡◌, ℕ, zero, suc, ◌+◌, ◌-◌, ◌%◌, ◌<◌, ◌≤◌, Bool, true, ◌&&◌, eqb, refl, ap, subst, arith}
-use Rattle.std.proofs.lemmas.Bool.Decides.{Decides-below_and, Decides-eqb}
+use Rattle.std.proofs.lemmas.Bool.Decides.{Decides-below_and, Decides-eqb, nat_tests}
 use Rattle.calendar.specs.declared.week.Weekday.TheVariants.{Sunday}
 use Rattle.calendar.specs.Dates.{month_start, length_of}
 use Rattle.calendar.specs.Weeks.{in_week, weekday}
 use Rattle.calendar.specs.Easter.{full_moon, to_sunday, easter, easter_by_scheme, Easters}
 
-all_places : ℕ → Bool
-all_places zero = true
-all_places (suc i) = eqb (to_sunday (in_week i)) (7 - (i + 1) % 7) && all_places i
-
 -- the way to Sunday, by the place in the week
 to_sunday_is : (i : ℕ) → i < 7 → to_sunday (in_week i) ≡ 7 - (i + 1) % 7
-unfolding all_places
-to_sunday_is = (Decides-below_and (λ i. eqb (to_sunday (in_week i)) (7 - (i + 1) % 7)) (λ i. to_sunday (in_week i) ≡ 7 - (i + 1) % 7) all_places (λ i. Decides-eqb _ _) refl (λ _. refl) 7).0 refl
+to_sunday_is i h = grind (arith, nat_tests)
 
 sunday_after : (n : ℕ) → weekday (n + to_sunday (weekday n)) ≡ Sunday
 unfolding weekday

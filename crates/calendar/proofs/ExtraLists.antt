@@ -1,29 +1,27 @@
 -- Lists of extra days. Assumes nothing.
-use Rattle.std.proofs.Common.{◌≡◌, ℕ, suc, ◌+◌, ◌<◌, ◌≤◌, true, false, eqb, List, [], ◌∷◌, length, get_or, drop, ◌||◌, refl, ap, subst, ⊎_elim, add-one, arith}
-use Rattle.std.specs.List.{list_any}
-use Rattle.std.proofs.lemmas.List.{at_drop_more}
-use Rattle.std.proofs.lemmas.Bool.{and_parts, or_cases, eqb-true, leb-true, le-leb}
+use Rattle.std.proofs.Common.{◌≡◌, ℕ, zero, suc, ◌+◌, ◌<◌, ◌≤◌, Bool, true, false, leb, ltb, List, [], ◌∷◌, ◌&&◌, length, get_or, refl, arith}
+use Rattle.std.specs.List.{list_all, AllAdjacentBelow, IsAllAdjacentAnswer}
 use Rattle.std.proofs.lemmas.Bool.Decides.{nat_tests}
-use Rattle.calendar.specs.ExtraDays.{rising, among}
+use Rattle.calendar.specs.ExtraDays.{rising}
 
--- a day in its place leaves the later ones to look at
-pub rising_on : (low i : ℕ) (xs : List ℕ) → i < length xs → low ≤ get_or xs i 0 → get_or xs i 0 ≤ 14609 → rising (get_or xs i 0 + 1) (drop (i + 1) xs) ≡ rising low (drop i xs)
-rising_on low i xs h a b =
-    rw (at_drop_more (rising low) xs i 0 h) (simp (le-leb low (get_or xs i 0) a, le-leb (get_or xs i 0) 14609 b, add-one))
+-- days of which each is later than the one before rise, if none is past the last
+rises : (low x : ℕ) (xs : List ℕ) → low ≤ x → AllAdjacentBelow (λ a b. true ≡ ltb a b) (x ∷ xs) (length (x ∷ xs)) → list_all (λ d. leb d 14609) (x ∷ xs) ≡ rising low (x ∷ xs)
+rises low x [] h up = grind (arith, nat_tests)
+rises low x (y ∷ ys) h up =
+    let next : x < y = grind (arith, nat_tests, up 0 0) in
+    grind (arith, nat_tests, rises (suc x) y ys (omega arith) (λ k d l. let e : suc k + 1 ≡ suc (k + 1) = omega arith in rw e at (up (suc k) d (omega arith))))
 
--- a day out of its place settles it
-pub rising_not : (low i : ℕ) (xs : List ℕ) → i < length xs → (low ≤ get_or xs i 0 → 14609 < get_or xs i 0) → false ≡ rising low (drop i xs)
-rising_not low i xs h out =
-    rw (at_drop_more (rising low) xs i 0 h) (grind (arith, nat_tests))
+-- days of which one is no later than the one before do not
+rises_not : (low k : ℕ) (xs : List ℕ) → k + 1 < length xs → ((d : ℕ) → false ≡ ltb (get_or xs k d) (get_or xs (k + 1) d)) → false ≡ rising low xs
+rises_not low k [] h out = absurd (omega arith)
+rises_not low zero (x ∷ []) h out = absurd (omega arith)
+rises_not low zero (x ∷ y ∷ ys) h out = grind (arith, nat_tests, out 0)
+rises_not low (suc k) (x ∷ xs) h out =
+    let e : suc k + 1 ≡ suc (k + 1) = omega arith in
+    grind (arith, nat_tests, rises_not (suc x) k xs (omega arith) (λ d. rw e at (out d)))
 
--- what `contains` answers
-pub among_is : (n : ℕ) (xs : List ℕ) → list_any (λ x. eqb x n) xs ≡ among n xs
-among_is n [] = refl
-among_is n (x ∷ xs) = ap (λ t. eqb x n || t) (among_is n xs)
-
--- a day among days in order is not past the last
-pub among_known : (n low : ℕ) (xs : List ℕ) → rising low xs ≡ true → among n xs ≡ true → n ≤ 14609
-among_known n low [] r e = let z : ◌≡◌ {A = ℕ} 0 1 = cc in absurd (omega arith)
-among_known n low (x ∷ xs) r e =
-    let here = and_parts _ _ (and_parts _ _ r).1 in
-    ⊎_elim (λ t. subst (λ m. m ≤ 14609) (eqb-true x n t) (leb-true x 14609 here.0)) (λ t. among_known n (suc x) xs here.1 t) (or_cases _ _ e)
+-- whether days rise, by whether each is later than the one before
+pub rising_by_steps : (xs : List ℕ) (steps : Bool) → IsAllAdjacentAnswer (λ a b r. r ≡ ltb a b) xs steps → (steps && list_all (λ d. leb d 14609) xs) ≡ rising 0 xs
+rising_by_steps [] true up = refl
+rising_by_steps (x ∷ xs) true up = rises 0 x xs (omega arith) up
+rising_by_steps xs false (k, h, out) = rises_not 0 k xs h out

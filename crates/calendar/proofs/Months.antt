@@ -1,8 +1,8 @@
 -- The months, by their first days and their lengths. Assumes nothing.
-use Rattle.std.proofs.Common.{◌≡◌, ℕ, zero, suc, ◌+◌, ◌-◌, ◌*◌, ◌/◌, ◌%◌, ◌<◌, ◌≤◌, Bool, true, cond, ◌&&◌, eqb, ltb, leb, List, [], ◌∷◌, get_or, refl, ap, subst, ⊎_elim, add-zero, add-one, arith}
+use Rattle.std.proofs.Common.{◌≡◌, ℕ, zero, suc, ◌+◌, ◌-◌, ◌*◌, ◌/◌, ◌%◌, ◌<◌, ◌≤◌, Bool, true, cond, ◌&&◌, eqb, ltb, leb, List, [], ◌∷◌, get_or, refl, sym, ap, subst, add-zero, add-one, arith}
 use Rattle.std.proofs.lemmas.Bool.Decides.{Decides-below_and, Decides-eqb, Decides-ltb, nat_tests}
-use Rattle.std.proofs.lemmas.Bool.{cases_order, cond_both, ltb-true, ltb-false}
-use Rattle.calendar.specs.Dates.{month_start, length_of, month_from, month_of, InMonth, day_of_year}
+use Rattle.std.proofs.lemmas.Bool.{cond_both, ltb-true, ltb-false}
+use Rattle.calendar.specs.Dates.{year_of, month_index, month_start, length_of, month_from, month_of, InMonth, day_of_year}
 
 -- the days of a common year before each month
 abbrev before : List ℕ
@@ -17,9 +17,12 @@ all_closed zero = true
 all_closed (suc n) = eqb (closed n) (month_start n) && all_closed n
 
 -- the closed form is right, by one test at each month
-pub closed_is : (k : ℕ) → k < 481 → closed k ≡ month_start k
+closed_at : (k : ℕ) → k < 481 → closed k ≡ month_start k
 unfolding all_closed month_start length_of
-closed_is = (Decides-below_and (λ k. eqb (closed k) (month_start k)) (λ k. closed k ≡ month_start k) all_closed (λ k. Decides-eqb (closed k) (month_start k)) refl (λ _. refl) 481).0 refl
+closed_at = (Decides-below_and (λ k. eqb (closed k) (month_start k)) (λ k. closed k ≡ month_start k) all_closed (λ k. Decides-eqb (closed k) (month_start k)) refl (λ _. refl) 481).0 refl
+
+pub closed_is : (k : ℕ) → k < 481 → month_start k ≡ closed k
+closed_is k h = sym (closed_at k h)
 
 first_zero : month_start 0 ≡ 0
 unfolding month_start
@@ -58,14 +61,19 @@ first_mono k (suc j) =
     let e : k + suc j ≡ (k + j) + 1 = omega arith in
     rw (e, first_next) (omega (arith, first_mono k j, length_low (k + j)))
 
+-- the months from k on end with day 14,609
+pub room : (k : ℕ) → k < 480 → length_of k + month_start k + 28 * (479 - k) ≤ 14610
+room k h =
+    let e : (k + 1) + (479 - k) ≡ 480 = omega arith in
+    omega (arith, first_next k, rw e at (first_mono (k + 1) (479 - k)), first_end)
+
 first_lt : (k j : ℕ) → k < j → month_start (k + 1) ≤ month_start j
 first_lt k j h =
     let e : (k + 1) + (j - (k + 1)) ≡ j = omega arith in
     omega (arith, rw e at (first_mono (k + 1) (j - (k + 1))))
 
 in_one : (k j n : ℕ) → InMonth k n → InMonth j n → k ≡ j
-in_one k j n a b =
-    ⊎_elim (λ e. e) (λ o. ⊎_elim (λ h. absurd (omega (arith, rw add-one at (first_lt k j h)))) (λ h. absurd (omega (arith, rw add-one at (first_lt j k h)))) o) (cases_order k j)
+in_one k j n a b = grind (arith, first_lt k j, first_lt j k, add-one k, add-one j)
 
 walk : (f k n : ℕ) → k + f ≡ 480 → month_start k + n < month_start 480 → InMonth (month_from f k n) (month_start k + n)
 walk zero k n e h = let same : k ≡ 480 = omega arith in absurd (omega (arith, ap month_start same))
@@ -100,6 +108,12 @@ all_years (suc j) = ltb (month_start (12 * j + 12)) (month_start (12 * j) + 367)
 year_length : (j : ℕ) → j < 40 → month_start (12 * j + 12) < month_start (12 * j) + 367
 unfolding all_years month_start length_of
 year_length = (Decides-below_and (λ j. ltb (month_start (12 * j + 12)) (month_start (12 * j) + 367)) (λ j. month_start (12 * j + 12) < month_start (12 * j) + 367) all_years (λ j. Decides-ltb _ _) refl (λ _. refl) 40).0 refl
+
+-- a year begins no later than its months
+pub year_start_low : (k : ℕ) → month_start (month_index (year_of k) 1) ≤ month_start k
+year_start_low k =
+    let e : month_index (year_of k) 1 + (k - month_index (year_of k) 1) ≡ k = omega arith in
+    omega (arith, rw e at (first_mono (month_index (year_of k) 1) (k - month_index (year_of k) 1)))
 
 -- a year has at most 366 days
 pub day_of_year_high : (n : ℕ) → n ≤ 14609 → day_of_year n ≤ 365

@@ -3,7 +3,8 @@
 --     good_days xs      there are at most 64, in such an order
 --     among n xs        day n is one of them
 -- Assumes nothing.
-use Rattle.std.specs.Prelude.{ℕ, suc, Bool, true, false, ◌&&◌, ◌||◌, List, [], ◌∷◌, length, ◌==◌, nat_le}
+use Rattle.std.specs.Prelude.{ℕ, suc, Bool, true, ◌&&◌, List, [], ◌∷◌, length, ◌==◌, nat_le}
+use Rattle.std.specs.List.{list_any}
 
 abbrev pub rising : ℕ → List ℕ → Bool
 rising low [] = true
@@ -13,5 +14,4 @@ abbrev pub good_days : List ℕ → Bool
 good_days xs = nat_le (length xs) 64 && rising 0 xs
 
 abbrev pub among : ℕ → List ℕ → Bool
-among n [] = false
-among n (x ∷ xs) = x == n || among n xs
+among n xs = list_any (λ x. x == n) xs

@@ -1,11 +1,9 @@
-// Days of 2000 to 2039, counted from 1 January 2000, and their dates.
+// Days and their dates, to and fro.
 ghost use Rattle.std.specs.Prelude.{◌≡◌, ◌≤◌, IfSome};
-ghost use Rattle.calendar.specs.Dates.{date_of, day_of, day_of_year, valid, on_days, RoundTrip};
+ghost use Rattle.calendar.specs.Dates.{date_of, day_of, day_of_year, on_days, RoundTrip};
 
-use super::month::{is_month, month_holding, month_length, month_start};
-
-// 31 December 2039
-pub const LAST_DAY: u32 = 14_609;
+use super::day::Day;
+use super::year::Year;
 
 #[derive(Clone, Copy, PartialEq, Eq, Debug)]
 pub struct Date {
@@ -14,17 +12,34 @@ pub struct Date {
     pub day: u32,
 }
 
-// The date of a day that there is.
-pub(crate) fn date_at(day: u32) -> Date
-    requires { day ≤ 14609 }
-    ensures is { result ≡ date_of day }
-    ensures years { (2000 ≤ result.year) × (result.year ≤ 2039) }
-{
-    let month = month_holding(day);
-    Date {
-        year: 2000 + month / 12,
-        month: month % 12 + 1,
-        day: day - month_start(month) + 1,
+impl Day {
+    #[tactic(auto, unfolding(crate::specs::Dates::date_of))]
+    pub(crate) fn date(self) -> Date
+        ensures { result ≡ date_of self.number }
+    {
+        let month = self.month();
+        Date {
+            year: month.year().number,
+            month: month.place(),
+            day: self.number - month.start().number + 1,
+        }
+    }
+
+    #[tactic(auto, unfolding(crate::specs::Dates::date_of))]
+    pub(crate) fn year(self) -> Year
+        ensures { result.number ≡ (date_of self.number).year }
+    {
+        self.month().year()
+    }
+
+    // Its place in its year, 1 January at 0.
+    #[tactic(auto, using(crate::proofs::Months::year_start_low, crate::proofs::Months::day_of_year_high), unfolding(crate::specs::Dates::day_of_year))]
+    fn place_in_year(self) -> u32
+        ensures is { result ≡ day_of_year self.number }
+        ensures bound { result ≤ 365 }
+    {
+        let january = self.month().year().month_at(1);
+        self.number - january.start().number
     }
 }
 
@@ -32,40 +47,15 @@ pub(crate) fn date_at(day: u32) -> Date
 pub fn date_of(day: u32) -> Option<Date>
     ensures { result ≡ on_days day (date_of day) }
 {
-    if day > LAST_DAY {
-        return None;
-    }
-    Some(date_at(day))
-}
-
-// Whether 2000 to 2039 have such a date.
-fn is_date(date: Date) -> bool
-    ensures { result ≡ valid date }
-{
-    is_month(date.year, date.month)
-        && date.day >= 1
-        && date.day <= month_length(date.year, date.month)
+    Day::new(day).map(Day::date)
 }
 
 // The day of a date, if 2000 to 2039 have such a date.
 pub fn day_of(date: Date) -> Option<u32>
     ensures { result ≡ day_of date }
 {
-    if !is_date(date) {
-        return None;
-    }
-    let month = 12 * (date.year - 2000) + (date.month - 1);
-    Some(month_start(month) + (date.day - 1))
-}
-
-// The days from 1 January of its year to a day.
-fn days_into_year(day: u32) -> u32
-    requires { day ≤ 14609 }
-    ensures is { result ≡ day_of_year day }
-    ensures bound { result ≤ 365 }
-{
-    let month = month_holding(day);
-    day - month_start(month / 12 * 12)
+    let month = Year::new(date.year)?.month(date.month)?;
+    Some(month.day(date.day)?.number)
 }
 
 // A day's place in its year, 1 January at 0.
@@ -73,15 +63,11 @@ pub fn day_of_year(day: u32) -> Option<u32>
     ensures is { result ≡ on_days day (day_of_year day) }
     ensures bound { IfSome result (λ days. days ≤ 365) }
 {
-    if day > LAST_DAY {
-        return None;
-    }
-    Some(days_into_year(day))
+    Day::new(day).map(Day::place_in_year)
 }
 
-// Days and dates, to and fro.
-pub fn round_trip_stands() -> u8
+// Days and dates go to and fro.
+#[tactic(auto, using(crate::proofs::RoundTrips::round_trip))]
+pub fn round_trip_stands()
     ensures { RoundTrip }
-{
-    0
-}
+{}

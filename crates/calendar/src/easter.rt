@@ -3,23 +3,9 @@ ghost use Rattle.std.specs.Prelude.{◌≡◌, ◌<◌, ◌≤◌};
 ghost use Rattle.calendar.specs.Dates.{on_years};
 ghost use Rattle.calendar.specs.Easter.{moon_age, to_sunday, easter, Easters};
 
-use super::month::{is_year, month_start};
-use super::week::{Weekday, weekday_at};
-
-// How many days after 21 March the paschal full moon is.
-fn moon_age(year: u32) -> u32
-    requires { year ≤ 2039 }
-    ensures is { result ≡ moon_age year }
-    ensures bound { result < 30 }
-{
-    let golden = year % 19;
-    let age = (19 * golden + 24) % 30;
-    if age == 29 || age == 28 && golden > 10 {
-        age - 1
-    } else {
-        age
-    }
-}
+use super::day::Day;
+use super::week::Weekday;
+use super::year::Year;
 
 // The days to the next Sunday.
 fn to_sunday(weekday: Weekday) -> u32
@@ -27,38 +13,50 @@ fn to_sunday(weekday: Weekday) -> u32
     ensures bound { result ≤ 7 }
 {
     match weekday {
-        Weekday::Monday => 6,
-        Weekday::Tuesday => 5,
-        Weekday::Wednesday => 4,
-        Weekday::Thursday => 3,
-        Weekday::Friday => 2,
-        Weekday::Saturday => 1,
         Weekday::Sunday => 7,
+        _ => 6 - weekday as u32,
     }
 }
 
-pub(crate) fn easter_in(year: u32) -> u32
-    requires { (2000 ≤ year) × (year ≤ 2039) }
-    ensures is { result ≡ easter year }
-    ensures bound { result ≤ 14609 }
-{
-    let full_moon = month_start(12 * (year - 2000) + 2) + 20 + moon_age(year);
-    full_moon + to_sunday(weekday_at(full_moon))
+impl Year {
+    // How many days after 21 March its paschal full moon is.
+    fn moon_age(self) -> u32
+        ensures is { result ≡ moon_age self.number }
+        ensures bound { result < 30 }
+    {
+        let golden = self.number % 19;
+        let age = (19 * golden + 24) % 30;
+        if age == 29 || age == 28 && golden > 10 {
+            age - 1
+        } else {
+            age
+        }
+    }
+
+    // Its Easter Sunday.
+    #[tactic(auto, unfolding(crate::specs::Easter::easter, crate::specs::Easter::full_moon))]
+    pub(crate) fn easter(self) -> Day
+        ensures { result.number ≡ easter self.number }
+    {
+        let march = self.month_at(3);
+        let full_moon = Day {
+            number: march.start().number + 20 + self.moon_age(),
+        };
+        Day {
+            number: full_moon.number + to_sunday(full_moon.weekday()),
+        }
+    }
 }
 
 // The day of Easter Sunday of a year of 2000 to 2039.
 pub fn easter_sunday(year: u32) -> Option<u32>
     ensures { result ≡ on_years year (easter year) }
 {
-    if !is_year(year) {
-        return None;
-    }
-    Some(easter_in(year))
+    Some(Year::new(year)?.easter().number)
 }
 
 // Easter is the Sunday after the full moon, and agrees with the well-known scheme.
-pub fn easter_stands() -> u8
+#[tactic(auto, using(crate::proofs::Easters::easters))]
+pub fn easter_stands()
     ensures { Easters }
-{
-    0
-}
+{}

@@ -4,7 +4,7 @@ ghost use Rattle.units.specs.Makings.{Makes};
 ghost use Rattle.calendar.specs.declared.kind.DayKind.TheVariants.{Holiday};
 ghost use Rattle.calendar.specs.ExtraDays.{rising, good_days, among};
 
-use super::date::LAST_DAY;
+use super::day::LAST_DAY;
 use super::kind::{Calendar, DayKind};
 use units::Refusal;
 
@@ -20,23 +20,7 @@ pub struct ExtraDays<C: Calendar> {
 fn is_rising(days: &[u32]) -> bool
     ensures { result ≡ rising 0 days.now }
 {
-    let mut next = 0;
-    for day in days {
-        if *day < next || *day > LAST_DAY {
-            return false;
-        }
-        next = *day + 1;
-    }
-    true
-}
-
-impl<C: Calendar> ExtraDays<C> {
-    fn has(&self, day: u32) -> bool
-        ensures is { result ≡ among day self.now.days.items }
-        ensures known { result ≡ true → day ≤ 14609 }
-    {
-        self.days.contains(&day)
-    }
+    days.is_sorted_by(|a, b| a < b) && days.iter().all(|day| *day <= LAST_DAY)
 }
 
 impl<C: Calendar + Drop> ExtraDays<C> {
@@ -55,9 +39,11 @@ impl<C: Calendar> Calendar for ExtraDays<C> {
     ghost kinds = { λ x n. (if among n x.days.items then Holiday else C.Calendar.kinds x.below n) };
 
     fn kind(&self, day: u32) -> Option<DayKind> {
-        if self.has(day) {
+        let kind = self.below.kind(day)?;
+        // `contains`, since 64 days are few, and it asks nothing of their order
+        if self.days.contains(&day) {
             return Some(DayKind::Holiday);
         }
-        self.below.kind(day)
+        Some(kind)
     }
 }

@@ -1,12 +1,11 @@
 // The week with the nine holidays of the federal republic.
-ghost use Rattle.std.specs.Prelude.{◌≡◌, ◌≤◌};
+ghost use Rattle.std.specs.Prelude.{◌≡◌};
 ghost use Rattle.calendar.specs.Kinds.{fixed_holiday, easter_holiday, holiday, federal_kind};
 
-use super::date::{Date, LAST_DAY, date_at};
-use super::easter::easter_in;
+use super::date::Date;
+use super::day::Day;
 use super::kind::{Calendar, DayKind};
 use super::plain_week::weekday_kind;
-use super::week::weekday_at;
 
 #[derive(Clone, Copy)]
 pub struct Federal;
@@ -14,38 +13,40 @@ pub struct Federal;
 fn is_fixed_holiday(date: Date) -> bool
     ensures { result ≡ fixed_holiday date.month date.day }
 {
-    match (date.month, date.day) {
-        (1, 1) | (5, 1) | (10, 3) | (12, 25) | (12, 26) => true,
-        _ => false,
-    }
+    matches!(
+        (date.month, date.day),
+        (1, 1) | (5, 1) | (10, 3) | (12, 25) | (12, 26)
+    )
 }
 
 // Good Friday, Easter Monday, Ascension and Whit Monday.
-fn is_easter_holiday(easter: u32, day: u32) -> bool
-    requires { (easter ≤ 14609) × (day ≤ 14609) }
-    ensures { result ≡ easter_holiday easter day }
+fn is_easter_holiday(easter: Day, day: Day) -> bool
+    ensures { result ≡ easter_holiday easter.number day.number }
 {
+    let (easter, day) = (easter.number, day.number);
     day + 2 == easter || day == easter + 1 || day == easter + 39 || day == easter + 50
 }
 
-fn is_holiday(day: u32) -> bool
-    requires { day ≤ 14609 }
-    ensures { result ≡ holiday day }
+fn is_holiday(day: Day) -> bool
+    ensures { result ≡ holiday day.number }
 {
-    let date = date_at(day);
-    is_fixed_holiday(date) || is_easter_holiday(easter_in(date.year), day)
+    is_fixed_holiday(day.date()) || is_easter_holiday(day.year().easter(), day)
+}
+
+fn federal_kind(day: Day) -> DayKind
+    ensures { result ≡ federal_kind day.number }
+{
+    if is_holiday(day) {
+        DayKind::Holiday
+    } else {
+        weekday_kind(day.weekday())
+    }
 }
 
 impl Calendar for Federal {
     ghost kinds = { λ _ n. federal_kind n };
 
     fn kind(&self, day: u32) -> Option<DayKind> {
-        if day > LAST_DAY {
-            return None;
-        }
-        if is_holiday(day) {
-            return Some(DayKind::Holiday);
-        }
-        Some(weekday_kind(weekday_at(day)))
+        Day::new(day).map(federal_kind)
     }
 }

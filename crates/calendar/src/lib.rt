@@ -2,6 +2,7 @@
 #![tactic(auto)]
 
 mod date;
+mod day;
 mod easter;
 mod extra_days;
 mod federal;
@@ -12,8 +13,10 @@ mod season;
 #[cfg(test)]
 mod tests;
 mod week;
+mod year;
 
-pub use date::{Date, LAST_DAY, date_of, day_of, day_of_year, round_trip_stands};
+pub use date::{Date, date_of, day_of, day_of_year, round_trip_stands};
+pub use day::LAST_DAY;
 pub use easter::{easter_stands, easter_sunday};
 pub use extra_days::ExtraDays;
 pub use federal::Federal;

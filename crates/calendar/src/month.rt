@@ -1,8 +1,9 @@
-// Months of 2000 to 2039, and the days that they begin and end on.
-ghost use Rattle.std.specs.Prelude.{◌≡◌, ◌+◌, ◌-◌, ◌*◌, ◌≤◌};
-ghost use Rattle.calendar.specs.Dates.{month_start, month_end, month_length, month_of, month_number, known_year, known_month, InMonth, on_days, on_months};
+// The months of 2000 to 2039, counted from January 2000, and the days that they begin and end on.
+ghost use Rattle.std.specs.Prelude.{◌≡◌, ◌+◌, ◌-◌, ◌*◌, ◌≤◌, ◌&&◌, nat_le, is_some, IfSome};
+ghost use Rattle.calendar.specs.Dates.{month_start, month_end, length_of, month_of, month_number, year_of, place_of, InMonth, on_days, on_months};
 
-use super::date::LAST_DAY;
+use super::day::Day;
+use super::year::Year;
 
 // December 2039
 pub const LAST_MONTH: u32 = 479;
@@ -10,104 +11,135 @@ pub const LAST_MONTH: u32 = 479;
 // the days of a common year before each month
 const BEFORE: [u32; 12] = [0, 31, 59, 90, 120, 151, 181, 212, 243, 273, 304, 334];
 
-// The first day of a month; of month 480, the day after the last.
-pub(crate) fn month_start(month: u32) -> u32
-    requires { month ≤ 480 }
-    ensures is { result ≡ month_start month }
-    ensures bound { result + 28 * (480 - month) ≤ 14610 }
-{
-    let year = month / 12;
-    let place = month % 12;
-    let leap_day = if place >= 2 && year % 4 == 0 { 1 } else { 0 };
-    365 * year + (year + 3) / 4 + BEFORE[place as usize] + leap_day
+// A month that there is. A type beside `Day`, since nothing but its making is like a day's.
+#[derive(Clone, Copy)]
+pub(crate) struct Month {
+    pub(crate) number: u32,
+    ghost known: { number ≤ 479 },
 }
 
-// The last day of a month that there is.
-fn month_end(month: u32) -> u32
-    requires { month ≤ 479 }
-    ensures { result ≡ month_end month }
-{
-    month_start(month + 1) - 1
-}
-
-// The month that holds a day.
-pub(crate) fn month_holding(day: u32) -> u32
-    requires { day ≤ 14609 }
-    ensures is { result ≡ month_of day }
-    ensures inside { InMonth result day }
-{
-    let mut month = day / 31;
-    while month_start(month + 1) <= day {
-        month += 1;
+impl Month {
+    pub(crate) fn new(number: u32) -> Option<Month>
+        ensures variant { is_some result ≡ nat_le number 479 }
+        ensures value { IfSome result (λ month. month.number ≡ number) }
+    {
+        // an early return: with `then` the closure would need a clause of its own for the bound
+        if number > LAST_MONTH {
+            return None;
+        }
+        Some(Month { number })
     }
-    month
+
+    pub(crate) fn year(self) -> Year
+        ensures { result.number ≡ year_of self.number }
+    {
+        Year {
+            number: 2000 + self.number / 12,
+        }
+    }
+
+    // Its place in its year, 1 for January.
+    pub(crate) fn place(self) -> u32
+        ensures { result ≡ place_of self.number }
+    {
+        self.number % 12 + 1
+    }
+
+    // How many days it has.
+    #[tactic(auto, unfolding(crate::specs::Dates::length_of))]
+    pub(crate) fn length(self) -> u32
+        ensures is { result ≡ length_of self.number }
+        ensures low { 28 ≤ result }
+        ensures high { result ≤ 31 }
+    {
+        match self.place() {
+            2 if self.year().is_leap() => 29,
+            2 => 28,
+            4 | 6 | 9 | 11 => 30,
+            _ => 31,
+        }
+    }
+
+    // Its first day. It and the months after it end by the last day.
+    #[tactic(auto, using(crate::proofs::Months::closed_is, crate::proofs::Months::room))]
+    pub(crate) fn start(self) -> Day
+        ensures is { result.number ≡ month_start self.number }
+        ensures room { result.number + length_of self.number + 28 * (479 - self.number) ≤ 14610 }
+    {
+        let years = self.number / 12;
+        let place = self.number % 12;
+        // each fourth year is a leap year, as 2000 is one and 2100 lies past them
+        let leap_day = u32::from(place >= 2 && years % 4 == 0);
+        Day {
+            number: 365 * years + (years + 3) / 4 + BEFORE[place as usize] + leap_day,
+        }
+    }
+
+    // Its last day.
+    pub(crate) fn end(self) -> Day
+        ensures { result.number ≡ month_end self.number }
+    {
+        Day {
+            number: self.start().number + (self.length() - 1),
+        }
+    }
+
+    // Its day at a place, 1 for the first, if it has such a day.
+    pub(crate) fn day(self, place: u32) -> Option<Day>
+        ensures variant { is_some result ≡ (nat_le 1 place && nat_le place (length_of self.number)) }
+        ensures value { IfSome result (λ day. day.number ≡ month_start self.number + (place - 1)) }
+    {
+        // an early return: with `then` the closure would need a clause of its own for the bound
+        if !(1..=self.length()).contains(&place) {
+            return None;
+        }
+        Some(Day {
+            number: self.start().number + (place - 1),
+        })
+    }
 }
 
-pub(crate) fn month_length(year: u32, month: u32) -> u32
-    ensures { result ≡ month_length year month }
-{
-    match month {
-        2 => {
-            if year % 4 == 0 && year % 100 != 0 || year % 400 == 0 {
-                29
-            } else {
-                28
+impl Day {
+    // The month that it lies in.
+    pub(crate) fn month(self) -> Month
+        ensures is { result.number ≡ month_of self.number }
+        ensures inside { InMonth result.number self.number }
+    {
+        // no month has more than 31 days; a `for`, since `find` would need a closure with a contract of its own
+        for number in self.number / 31..LAST_MONTH {
+            let month = Month { number };
+            if self.number <= month.end().number {
+                return month;
             }
         }
-        4 | 6 | 9 | 11 => 30,
-        _ => 31,
+        Month { number: LAST_MONTH }
     }
-}
-
-pub(crate) fn is_year(year: u32) -> bool
-    ensures { result ≡ known_year year }
-{
-    year >= 2000 && year <= 2039
-}
-
-// Whether 2000 to 2039 have such a month.
-pub(crate) fn is_month(year: u32, month: u32) -> bool
-    ensures { result ≡ known_month year month }
-{
-    is_year(year) && month >= 1 && month <= 12
 }
 
 // The month of a day.
 pub fn month_of(day: u32) -> Option<u32>
     ensures { result ≡ on_days day (month_of day) }
 {
-    if day > LAST_DAY {
-        return None;
-    }
-    Some(month_holding(day))
+    Some(Day::new(day)?.month().number)
 }
 
 // The number of a year's month, counted from January 2000.
 pub fn month_number(year: u32, month: u32) -> Option<u32>
     ensures { result ≡ month_number year month }
 {
-    if !is_month(year, month) {
-        return None;
-    }
-    Some(12 * (year - 2000) + (month - 1))
+    Some(Year::new(year)?.month(month)?.number)
 }
 
 // The first day of a month.
 pub fn first_day(month: u32) -> Option<u32>
     ensures { result ≡ on_months month (month_start month) }
 {
-    if month > LAST_MONTH {
-        return None;
-    }
-    Some(month_start(month))
+    Some(Month::new(month)?.start().number)
 }
 
 // The last day of a month.
 pub fn last_day(month: u32) -> Option<u32>
     ensures { result ≡ on_months month (month_end month) }
 {
-    if month > LAST_MONTH {
-        return None;
-    }
-    Some(month_end(month))
+    Some(Month::new(month)?.end().number)
 }

@@ -22,9 +22,6 @@ impl Calendar for PlainWeek {
     ghost kinds = { λ _ n. plain_kind n };
 
     fn kind(&self, day: u32) -> Option<DayKind> {
-        let Some(weekday) = weekday_of(day) else {
-            return None;
-        };
-        Some(weekday_kind(weekday))
+        weekday_of(day).map(weekday_kind)
     }
 }

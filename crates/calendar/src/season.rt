@@ -3,7 +3,7 @@ ghost use Rattle.std.specs.Prelude.{◌≡◌};
 ghost use Rattle.calendar.specs.Dates.{on_days};
 ghost use Rattle.calendar.specs.Seasons.{season, season_at};
 
-use super::date::date_of;
+use super::date::{Date, date_of};
 
 #[derive(Clone, Copy, PartialEq, Eq, Debug)]
 pub enum Season {
@@ -15,11 +15,12 @@ pub enum Season {
     Transition,
 }
 
-// The season of a day of a month.
-fn season_at(month: u32, day: u32) -> Season
-    ensures { result ≡ season_at month day }
+// The season of a date.
+fn season_at(date: Date) -> Season
+    ensures { result ≡ season_at date.month date.day }
 {
-    match month {
+    let day = date.day;
+    match date.month {
         ..=2 | 11.. => Season::Winter,
         3 if day <= 20 => Season::Winter,
         5 if day >= 15 => Season::Summer,
@@ -33,8 +34,5 @@ fn season_at(month: u32, day: u32) -> Season
 pub fn season_of(day: u32) -> Option<Season>
     ensures { result ≡ on_days day (season day) }
 {
-    let Some(date) = date_of(day) else {
-        return None;
-    };
-    Some(season_at(date.month, date.day))
+    date_of(day).map(season_at)
 }

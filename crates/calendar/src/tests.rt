@@ -116,15 +116,14 @@ fn kinds_and_seasons(rt: HostRuntime) -> Result<(), Fail> {
 #[test]
 fn extra_days(rt: HostRuntime) -> Result<(), Fail> {
     let days = [2705, 2706].to_vec(rt.alloc())?;
-    let Ok(calendar) = ExtraDays::new(PlainWeek, days) else {
-        return Err(Fail::new("good days are refused"));
-    };
+    let calendar = ExtraDays::new(PlainWeek, days)?;
     assert_eq!(rt; calendar.kind(2704), Some(DayKind::Workday));
     assert_eq!(rt; calendar.kind(2705), Some(DayKind::Holiday));
     assert_eq!(rt; calendar.kind(14_610), None);
     let twice = [2705, 2705].to_vec(rt.alloc())?;
-    match ExtraDays::new(PlainWeek, twice) {
-        Err(units::Refusal::RuleBroken) => Ok(()),
-        _ => Err(Fail::new("a day that stands twice is taken")),
-    }
+    assert_eq!(rt;
+        ExtraDays::new(PlainWeek, twice).err(),
+        Some(units::Refusal::RuleBroken)
+    );
+    Ok(())
 }

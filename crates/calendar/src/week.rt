@@ -1,9 +1,9 @@
 // The days of the week.
 ghost use Rattle.std.specs.Prelude.{◌≡◌};
 ghost use Rattle.calendar.specs.Dates.{on_days};
-ghost use Rattle.calendar.specs.Weeks.{in_week, weekday};
+ghost use Rattle.calendar.specs.Weeks.{weekday};
 
-use super::date::LAST_DAY;
+use super::day::Day;
 
 #[derive(Clone, Copy, PartialEq, Eq, Debug)]
 pub enum Weekday {
@@ -16,33 +16,28 @@ pub enum Weekday {
     Sunday,
 }
 
-// The weekday at a place of the week, from Monday at 0 to Sunday at 6.
-fn in_week(place: u32) -> Weekday
-    ensures { result ≡ in_week place }
-{
-    match place {
-        0 => Weekday::Monday,
-        1 => Weekday::Tuesday,
-        2 => Weekday::Wednesday,
-        3 => Weekday::Thursday,
-        4 => Weekday::Friday,
-        5 => Weekday::Saturday,
-        _ => Weekday::Sunday,
-    }
-}
+const WEEK: [Weekday; 7] = [
+    Weekday::Monday,
+    Weekday::Tuesday,
+    Weekday::Wednesday,
+    Weekday::Thursday,
+    Weekday::Friday,
+    Weekday::Saturday,
+    Weekday::Sunday,
+];
 
-pub(crate) fn weekday_at(day: u32) -> Weekday
-    ensures { result ≡ weekday day }
-{
-    in_week((day % 7 + 5) % 7)
+impl Day {
+    #[tactic(auto, unfolding(crate::specs::Weeks::weekday))]
+    pub(crate) fn weekday(self) -> Weekday
+        ensures { result ≡ weekday self.number }
+    {
+        WEEK[((self.number + 5) % 7) as usize]
+    }
 }
 
 // The weekday of a day.
 pub fn weekday_of(day: u32) -> Option<Weekday>
     ensures { result ≡ on_days day (weekday day) }
 {
-    if day > LAST_DAY {
-        return None;
-    }
-    Some(weekday_at(day))
+    Day::new(day).map(Day::weekday)
 }

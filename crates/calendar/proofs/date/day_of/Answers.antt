@@ -1,9 +1,10 @@
-use Rattle.std.proofs.Common.{sym, arith}
-use Rattle.calendar.proofs.Months.{in_known}
-use Rattle.calendar.proofs.RoundTrips.{parts, day_in}
+use Rattle.std.proofs.Common.{arith}
+use Rattle.std.proofs.lemmas.Grind.{common_steps}
+use Rattle.calendar.proofs.RoundTrips.{length_at}
 use Rattle.calendar.proofs.date.day_of.Goals as goal
 
-pub overflow_add-result : goal.overflow_add-result
-overflow_add-result c =
-    let p = parts c.args.date (sym c.if-not-is_date.ensures) in
-    omega (arith, c.month_start.ensures.is, in_known _ _ (day_in c.args.date p))
+pub returns-in_err-day : goal.returns-in_err-day
+returns-in_err-day c = grind (arith, common_steps, length_at c.args.date.year c.args.date.month)
+
+pub returns : goal.returns
+returns c = grind (arith, common_steps, length_at c.args.date.year c.args.date.month)
