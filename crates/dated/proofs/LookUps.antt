@@ -1,118 +1,138 @@
 -- Laws of the dated look-up. Assumes nothing.
-use Rattle.std.proofs.Common.{◌≡◌, ℕ, ◌+◌, ◌<◌, ◌≤◌, Bool, true, false, cond, ◌&&◌, eqb, leb, ◌⊎◌, List, [], ◌∷◌, ◌++◌, map, length, get_or, take, Some, None, fold, Option, sym, refl, ap, ◌∙◌, inl, inr, ⊎_elim, arith}
-use Rattle.std.specs.Option.{option_map}
-use Rattle.std.specs.List.{AllByRecursion}
-use Rattle.std.proofs.lemmas.List.Sums.{fold_more, fold_push}
-use Rattle.std.proofs.lemmas.Bool.{eqb-true, leb-true, leb-false, eq-eqb}
+use Rattle.std.proofs.Common.{◌≡◌, ℕ, ◌≤◌, ◌<◌, ◌+◌, Bool, true, false, cond, ◌&&◌, eqb, leb, ltb, min, List, [], ◌∷◌, map, Some, None, fold}
+use Rattle.std.proofs.Common.{Option, Bor, refl, sym, ap, subst, ◌∙◌, arith}
+use denote.Param.Members.{Mut}
+use Rattle.std.specs.Option.{option_copied}
+use Rattle.std.specs.Ordering.{nat_cmp, max_by_ordering}
+use Rattle.std.specs.declared.cmp.Ordering.{Ordering}
+use Rattle.std.specs.declared.cmp.Ordering.TheVariants.{Less, Equal, Greater}
+use Rattle.std.specs.List.{filter, FoldsTo, All}
+use Rattle.std.specs.Fn.{CalledAt}
+use Rattle.std.specs.Iterator.{KeyTurn, PicksMaxByKey}
 use Rattle.std.proofs.lemmas.Bool.Decides.{nat_tests}
-use Rattle.dated.specs.Dates.{no_earlier, later, latest, OneOf, Latest, nearer, Same}
+use Rattle.std.proofs.lemmas.Iterator.{YieldsList}
+use Rattle.std.proofs.iter.Yields.{gives_Drains}
+use Rattle.std.proofs.lemmas.List.Elements.{All-nil, All-cons}
+use Rattle.dated.specs.Dates.{no_earlier, later, latest, nearer, Same}
 
-module _ {X : Type 0} (own date : X → ℕ) (who : ℕ) where
-  pub latest_none : (x : ℕ) (es : List X) → latest own date who x (take 0 es) ≡ None
-  unfolding latest
-  latest_none x es = refl
+-- a fold that passes over what fails the test is one over what passes
+fold-filter : {A B : Type 0} (h f : B → A → B) (test : A → Bool) → ((b : B) (e : A) → h b e ≡ cond (test e) (f b e) b)
+    → (b : B) (es : List A) → fold h b es ≡ fold f b (filter test es)
+fold-filter h f test is b [] = refl
+fold-filter {A} {B} h f test is b (e ∷ es) =
+    ap (λ w. fold h w es) (is b e)
+    ∙ step (test e) (fold-filter h f test is (f b e) es) (fold-filter h f test is b es)
+  where
+    step : (t : Bool) → fold h (f b e) es ≡ fold f (f b e) (filter test es) → fold h b es ≡ fold f b (filter test es)
+        → fold h (cond t (f b e) b) es ≡ fold f b (cond t (e ∷ filter test es) (filter test es))
+    step true taken passed = taken
+    step false taken passed = passed
 
-  pub latest_more : (x : ℕ) (es : List X) (i : ℕ) (d : X) → i < length es → latest own date who x (take (i + 1) es) ≡ later own date who x (latest own date who x (take i es)) (get_or es i d)
-  unfolding latest
-  latest_more x es i d h = fold_more (later own date who x) None es i d h
+-- e, where the best so far is not dated after it
+abbrev newer : {X : Type 0} → (X → ℕ) → Option X → X → Option X
+newer date best e = cond (no_earlier date best e) (Some e) best
 
-  later_not : (x : ℕ) (best : Option X) (e : X) → (eqb (own e) who ≡ false) ⊎ (x < date e) → later own date who x best e ≡ best
-  later_not x best e h = grind (arith, nat_tests)
+-- `max_by_key`, where the closure gives the date
+module _ {X F : Type 0} (date : X → ℕ) (g : Mut F (Bor (Bor X) × Unit {0}) ℕ) (f : F)
+    (gives : (z : Bor X) (k : ℕ) (q : F) → CalledAt g f z k q → (q ≡ f) × (k ≡ date z.now)) where
+  picks : (o : Ordering) (b z c : Bor X) (i k l : ℕ) → i ≡ date b.now → k ≡ date z.now → nat_cmp i k ≡ o
+      → l ≡ max_by_ordering o i k → c ≡ max_by_ordering o b z → (l ≡ date c.now) × (Some c.now ≡ newer date (Some b.now) z.now)
+  picks Less b z c i k l p q r s t = (s ∙ q ∙ ap (λ y. date y.now) (sym t), grind (arith, nat_tests))
+  picks Equal b z c i k l p q r s t = (s ∙ q ∙ ap (λ y. date y.now) (sym t), grind (arith, nat_tests))
+  picks Greater b z c i k l p q r s t = (s ∙ p ∙ ap (λ y. date y.now) (sym t), grind (arith, nat_tests))
 
-  -- a later record, or one of another's, does not change the look-up
-  pub latest_push : (x : ℕ) (es : List X) (e : X) → (eqb (own e) who ≡ false) ⊎ (x < date e) → latest own date who x (es ++ (e ∷ [])) ≡ latest own date who x es
-  unfolding latest
-  latest_push x es e h = fold_push (later own date who x) None es e ∙ later_not x _ e h
+  turns : (zs : List (Bor X)) (p q : (F × ℕ) × Bor X) → p.0.0 ≡ f → p.0.1 ≡ date p.1.now
+      → FoldsTo (KeyTurn max_by_ordering max_by_ordering g nat_cmp) p zs q → Some q.1.now ≡ fold (newer date) (Some p.1.now) (map (λ y. y.now) zs)
+  turns [] p q a b h = ap (λ w. Some w.1.now) (sym h)
+  turns (z ∷ zs) p q a b h =
+      let m = gives z h.1.0 h.0.0.0 (subst (λ w. CalledAt g w z h.1.0 h.0.0.0) a h.1.2) in
+      let n = picks h.1.1 p.1 z h.0.1 p.0.1 h.1.0 h.0.0.1 b m.1 h.1.3 h.1.4 h.1.5 in
+      turns zs h.0 q m.0 n.0 h.2 ∙ ap (λ w. fold (newer date) w (map (λ y. y.now) zs)) n.1
 
-  nearer_same : (x y next : ℕ) (best : Option X) (e : X) → x ≤ y → y < nearer own date who x next e → later own date who y best e ≡ later own date who x best e
-  nearer_same x y next best e a b = grind (arith, nat_tests)
+  pub newest_from_yields_List : {S : Type 0} {steps : S → Option (Bor X) → S → Type 0} (s : S) (r : Option (Bor X)) (es : List X)
+      → PicksMaxByKey steps g nat_cmp s f r → YieldsList steps (λ y. y.now) s es → option_copied r ≡ fold (newer date) None es
+  newest_from_yields_List {steps = steps} s None es h y = ap (fold (newer date) None) (gives_Drains steps (λ y. y.now) [] es s y.runs h)
+  newest_from_yields_List {steps = steps} s (Some r) es h y =
+      let m = gives h.0 h.2 h.3 h.6 in
+      turns h.1 ((h.3, h.2), h.0) (h.4, r) m.0 m.1 h.7
+      ∙ ap (fold (newer date) None) (gives_Drains steps (λ y. y.now) (h.0 ∷ h.1) es s y.runs h.5)
 
-  nearer_under : (x y next : ℕ) (e : X) → y < nearer own date who x next e → y < next
-  nearer_under x y next e h = grind (arith, nat_tests)
-
-  pub nearer_past : (x next : ℕ) (e : X) → x < next → x < nearer own date who x next e
-  nearer_past x next e h = grind (arith, nat_tests)
-
-  pub same_none : (x next : ℕ) (es : List X) → Same own date who (take 0 es) x next
-  same_none x next es y a b = latest_none y es ∙ sym (latest_none x es)
-
-  pub same_more : (x next i : ℕ) (es : List X) (d : X) → i < length es → Same own date who (take i es) x next → Same own date who (take (i + 1) es) x (nearer own date who x next (get_or es i d))
-  same_more x next i es d h s y a b =
-      latest_more y es i d h
-      ∙ ap (λ o. later own date who y o (get_or es i d)) (s y a (nearer_under x y next (get_or es i d) b))
-      ∙ nearer_same x y next (latest own date who x (take i es)) (get_or es i d) a b
-      ∙ sym (latest_more x es i d h)
-
--- what the look-up means
 module _ {X : Type 0} (own date : X → ℕ) (who x : ℕ) where
-  abbrev Fit : Option X → Type 0
-  Fit None = Unit {0}
-  Fit (Some b) = (own b ≡ who) × (date b ≤ x)
+  abbrev pub fits : X → Bool
+  fits e = eqb (own e) who && leb (date e) x
 
-  -- the newest of es and the best so far
-  pub record NewestOver (b : X) (es : List X) (r : X) : Type 0 where
-    pub one : (r ≡ b) ⊎ OneOf es r
-    pub owned : own r ≡ who
-    pub not_after : date r ≤ x
-    pub not_before : date b ≤ date r
-    pub none_later : AllByRecursion (λ e. own e ≡ who → date e ≤ x → date e ≤ date r) es
-
-  abbrev Over : Option X → List X → Option X → Type 0
-  Over None es r = Latest own date who x es r
-  Over (Some b) es None = ⊥
-  Over (Some b) es (Some r) = NewestOver b es r
-
-  -- e becomes the best
-  takes : (best : Option X) (e : X) (es : List X) (r : Option X) → no_earlier date best e ≡ true → Over (Some e) es r → Over best (e ∷ es) r
-  takes None e es None n h = absurd h
-  takes None e es (Some r) n h = record { one = h.one; owned = h.owned; not_after = h.not_after; none_later = (λ _ _. h.not_before, h.none_later) }
-  takes (Some b) e es None n h = absurd h
-  takes (Some b) e es (Some r) n h = record { one = inr h.one; owned = h.owned; not_after = h.not_after; not_before = let l = leb-true (date b) (date e) n in let m = h.not_before in omega arith; none_later = (λ _ _. h.not_before, h.none_later) }
-
-  -- e is passed over
-  passes : (best : Option X) (e : X) (es : List X) (r : Option X) → (own e ≡ who → date e ≤ x → no_earlier date best e ≡ false) → Over best es r → Over best (e ∷ es) r
-  passes None e es None n h = (λ o. late (leb (date e) x) refl o, h)
+  later-newer : (best : Option X) (e : X) → later own date who x best e ≡ cond (fits e) (newer date best e) best
+  later-newer best e = both (eqb (own e) who) (leb (date e) x)
     where
-      late : (t : Bool) → leb (date e) x ≡ t → own e ≡ who → x < date e
-      late true a o = let z : true ≡ false = n o (leb-true (date e) x a) in let w : ◌≡◌ {A = ℕ} 0 1 = cc in absurd (omega arith)
-      late false a o = leb-false (date e) x a
-  passes None e es (Some r) n h = record { one = inr h.one; owned = h.owned; not_after = h.not_after; none_later = (λ o l. let z : true ≡ false = n o l in let w : ◌≡◌ {A = ℕ} 0 1 = cc in absurd (omega arith), h.none_later) }
-  passes (Some b) e es None n h = absurd h
-  passes (Some b) e es (Some r) n h = record {
-    one = ⊎_elim (λ q. inl q) (λ q. inr (inr q)) h.one;
-    owned = h.owned;
-    not_after = h.not_after;
-    not_before = h.not_before;
-    none_later = (λ o l. let s = leb-false (date b) (date e) (n o l) in let m = h.not_before in omega arith, h.none_later);
-  }
+      both : (p q : Bool) → cond (p && (q && no_earlier date best e)) (Some e) best ≡ cond (p && q) (newer date best e) best
+      both true true = refl
+      both true false = refl
+      both false q = refl
 
-  finds : (best : Option X) (es : List X) → Fit best → Over best es (fold (later own date who x) best es)
-  finds None [] f = tt
-  finds (Some b) [] f = record { one = inl refl; owned = f.0; not_after = f.1; not_before = omega arith; none_later = tt }
-  finds best (e ∷ es) f = step (eqb (own e) who) refl (leb (date e) x) refl (no_earlier date best e) refl (λ g. finds (Some e) es g) (finds best es f)
-    where
-      step : (a : Bool) → eqb (own e) who ≡ a → (b : Bool) → leb (date e) x ≡ b → (c : Bool) → no_earlier date best e ≡ c →
-          (Fit (Some e) → Over (Some e) es (fold (later own date who x) (Some e) es)) → Over best es (fold (later own date who x) best es) →
-          Over best (e ∷ es) (fold (later own date who x) (cond (a && (b && c)) (Some e) best) es)
-      step true p true q true n new old = takes best e es _ n (new (eqb-true (own e) who p, leb-true (date e) x q))
-      step true p true q false n new old = passes best e es _ (λ _ _. n) old
-      step true p false q c n new old = passes best e es _ (λ _ l. absurd (omega (arith, leb-false (date e) x q))) old
-      step false p b q c n new old = passes best e es _ (λ o _. let w : true ≡ false = sym (eq-eqb (own e) who o) ∙ p in let z : ◌≡◌ {A = ℕ} 0 1 = cc in absurd (omega arith)) old
-
-  pub latest_means : (es : List X) → Latest own date who x es (latest own date who x es)
+  pub latest_is : (es : List X) → fold (newer date) None (filter fits es) ≡ latest own date who x es
   unfolding latest
-  latest_means es = finds None es tt
+  latest_is es = sym (fold-filter (later own date who x) (newer date) fits later-newer None es)
 
--- of records seen through p
-module _ {X Y : Type 0} (p : X → Y) (own date : Y → ℕ) (who x : ℕ) where
-  later_map : (b : Option X) (e : X) → option_map p (later (λ r. own (p r)) (λ r. date (p r)) who x b e) ≡ later own date who x (option_map p b) (p e)
-  later_map None e = grind (arith, nat_tests)
-  later_map (Some b) e = grind (arith, nat_tests)
+  -- ---- what the look-up means
+  -- no record that fits is dated after the one found
+  abbrev rank : Option X → ℕ
+  rank None = 0
+  rank (Some r) = date r + 1
 
-  fold_map : (b : Option X) (es : List X) → option_map p (fold (later (λ r. own (p r)) (λ r. date (p r)) who x) b es) ≡ fold (later own date who x) (option_map p b) (map p es)
-  fold_map b [] = refl
-  fold_map b (e ∷ es) = fold_map (later (λ r. own (p r)) (λ r. date (p r)) who x b e) es ∙ ap (λ o. fold (later own date who x) o (map p es)) (later_map b e)
+  stays : (best : Option X) (es : List X) → rank best ≤ rank (fold (later own date who x) best es)
+  stays best [] = omega arith
+  stays None (e ∷ es) = omega arith
+  stays (Some b) (e ∷ es) =
+      let k : date b + 1 ≤ rank (later own date who x (Some b) e) = grind (arith, nat_tests) in
+      omega (arith, stays (later own date who x (Some b) e) es)
 
-  pub latest_map : (es : List X) → option_map p (latest (λ r. own (p r)) (λ r. date (p r)) who x es) ≡ latest own date who x (map p es)
+  reaches : (best : Option X) (e : X) → own e ≡ who → date e ≤ x → date e < rank (later own date who x best e)
+  reaches None e o l = grind (arith, nat_tests)
+  reaches (Some b) e o l = grind (arith, nat_tests)
+
+  none_past : (best : Option X) (es : List X) → All (λ e. own e ≡ who → date e ≤ x → date e < rank (fold (later own date who x) best es)) es
+  none_past best [] = All-nil (λ e. own e ≡ who → date e ≤ x → date e < rank best)
+  none_past best (e ∷ es) =
+      let b = later own date who x best e in
+      All-cons (λ d. own d ≡ who → date d ≤ x → date d < rank (fold (later own date who x) b es)) e es
+      (λ o l. omega (arith, reaches best e o l, stays b es))
+      (none_past b es)
+
+  bounded : (es : List X) (r : Option X) → r ≡ latest own date who x es → All (λ e. own e ≡ who → date e ≤ x → date e < rank r) es
   unfolding latest
-  latest_map es = fold_map None es
+  bounded es r v = subst (λ w. All (λ e. own e ≡ who → date e ≤ x → date e < rank w) es) (sym v) (none_past None es)
+
+  pub none_fits : (es : List X) → None ≡ latest own date who x es → All (λ e. own e ≡ who → x < date e) es
+  none_fits es v = λ k d i o. let b = bounded es None v k d i o in grind arith
+
+  pub none_later : (es : List X) (r : X) → Some r ≡ latest own date who x es → All (λ e. own e ≡ who → date e ≤ x → date e ≤ date r) es
+  none_later es r v = λ k d i o l. let b = bounded es (Some r) v k d i o l in omega arith
+
+  -- ---- the next date
+  abbrev pub past : X → Bool
+  past e = eqb (own e) who && ltb x (date e)
+
+  pub nearest_is : (n : ℕ) (es : List X) → fold (λ m e. min m (date e)) n (filter past es) ≡ fold (nearer own date who x) n es
+  nearest_is n es = sym (fold-filter (nearer own date who x) (λ m e. min m (date e)) past (λ m e. refl) n es)
+
+  pub nearest_past : (n : ℕ) (es : List X) → x < n → x < fold (nearer own date who x) n es
+  nearest_past n [] h = h
+  nearest_past n (e ∷ es) h = nearest_past (nearer own date who x n e) es (grind (arith, nat_tests))
+
+  nearest-le : (n : ℕ) (es : List X) → fold (nearer own date who x) n es ≤ n
+  nearest-le n [] = omega arith
+  nearest-le n (e ∷ es) =
+      let k : nearer own date who x n e ≤ n = grind (arith, nat_tests) in
+      omega (arith, nearest-le (nearer own date who x n e) es)
+
+  unchanged : (y n : ℕ) (best : Option X) (es : List X) → x ≤ y → y < fold (nearer own date who x) n es
+      → fold (later own date who y) best es ≡ fold (later own date who x) best es
+  unchanged y n best [] a b = refl
+  unchanged y n best (e ∷ es) a b =
+      let k : y < nearer own date who x n e = omega (arith, nearest-le (nearer own date who x n e) es) in
+      let j : later own date who y best e ≡ later own date who x best e = grind (arith, nat_tests) in
+      ap (λ w. fold (later own date who y) w es) j ∙ unchanged y (nearer own date who x n e) (later own date who x best e) es a b
+
+  pub nearest_same : (n : ℕ) (es : List X) → Same own date who es x (fold (nearer own date who x) n es)
+  unfolding latest
+  nearest_same n es y a b = unchanged y n None es a b

@@ -6,8 +6,8 @@
 --     nearer own date who x next e     the nearer of two dates past x, where e is who's
 --     Same own date who es x next      up to the day before next the look-up finds what it finds at x
 -- Assumes nothing.
-use Rattle.std.specs.Prelude.{◌≡◌, ℕ, ◌<◌, ◌≤◌, min, Bool, true, cond, ◌&&◌, ◌⊎◌, List, [], ◌∷◌, Some, None, fold, Option, ◌==◌, nat_le, nat_lt}
-use Rattle.std.specs.List.{AllByRecursion}
+use Rattle.std.specs.Prelude.{◌≡◌, ℕ, ◌<◌, ◌≤◌, min, Bool, true, cond, ◌&&◌, List, Some, None, fold, Option, ◌==◌, nat_le, nat_lt}
+use Rattle.std.specs.List.{All, Contains}
 
 abbrev pub no_earlier : {X : Type 0} → (X → ℕ) → Option X → X → Bool
 no_earlier date None e = true
@@ -19,18 +19,14 @@ later own date who x best e = cond (own e == who && (nat_le (date e) x && no_ear
 unfoldable pub latest : {X : Type 0} → (X → ℕ) → (X → ℕ) → ℕ → ℕ → List X → Option X
 latest own date who x es = fold (later own date who x) None es
 
-abbrev pub OneOf : {X : Type 0} → List X → X → Type 0
-OneOf [] r = ⊥
-OneOf (e ∷ es) r = (r ≡ e) ⊎ OneOf es r
-
 pub record Newest {X : Type 0} (own date : X → ℕ) (who x : ℕ) (es : List X) (r : X) : Type 0 where
-  pub one : OneOf es r
+  pub one : Contains es r
   pub owned : own r ≡ who
   pub not_after : date r ≤ x
-  pub none_later : AllByRecursion (λ e. own e ≡ who → date e ≤ x → date e ≤ date r) es
+  pub none_later : All (λ e. own e ≡ who → date e ≤ x → date e ≤ date r) es
 
 abbrev pub Latest : {X : Type 0} → (X → ℕ) → (X → ℕ) → ℕ → ℕ → List X → Option X → Type 0
-Latest own date who x es None = AllByRecursion (λ e. own e ≡ who → x < date e) es
+Latest own date who x es None = All (λ e. own e ≡ who → x < date e) es
 Latest own date who x es (Some r) = Newest own date who x es r
 
 abbrev pub nearer : {X : Type 0} → (X → ℕ) → (X → ℕ) → ℕ → ℕ → ℕ → X → ℕ

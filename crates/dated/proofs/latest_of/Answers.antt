@@ -1,27 +1,29 @@
-use Rattle.std.proofs.Common.{◌≡◌, ◌≤◌, length, get_or, sym, ap, ◌∙◌, subst, arith}
-use Rattle.std.proofs.lemmas.List.{take_all}
-use Rattle.dated.specs.Dates.{later, latest, Latest}
-use Rattle.dated.proofs.LookUps.{latest_none, latest_more, latest_means}
+use Rattle.std.proofs.Common.{◌≡◌, Option, None, Some, rules, tests, sym, ◌∙◌, refl}
+use Rattle.std.proofs.lemmas.Iterator.{YieldsList-from_slice}
+use Rattle.std.proofs.lemmas.Iterator.Consumers.{YieldsList-from_filter}
+use Rattle.dated.specs.Dates.{latest, Latest}
+use Rattle.dated.proofs.LookUps.{fits, newest_from_yields_List, latest_is, none_fits, none_later}
 use Rattle.dated.proofs.latest_of.Goals as goal
-
-pub loop-item-init : goal.loop-item-init
-loop-item-init g c = sym (latest_none g.T.Dated.owner_of g.T.Dated.date_of c.args.owner c.args.date c.args.table.now)
-
-pub loop-item-preserved : goal.loop-item-preserved
-loop-item-preserved g c =
-    let own = g.T.Dated.owner_of in
-    let date = g.T.Dated.date_of in
-    let who = c.args.owner in
-    let x = c.args.date in
-    let es = c.args.table.now in
-    let o = c.loop-item.found in
-    c.later_of-found.ensures ∙ ap (later own date who x o) c.item-item.is ∙ ap (λ b. later own date who x b (get_or es c.loop-item.item-index c.item-item.result)) c.loop-item.invariant ∙ sym (latest_more own date who x es c.loop-item.item-index c.item-item.result c.loop-item-test.true)
 
 pub returns : goal.returns
 returns g c =
     let own = g.T.Dated.owner_of in
     let date = g.T.Dated.date_of in
+    let who = c.args.owner in
+    let x = c.args.date in
     let es = c.args.table.now in
-    let k : length es ≤ c.loop-item.item-index = omega arith in
-    let v : c.loop-item.found ≡ latest own date c.args.owner c.args.date es = c.loop-item.invariant ∙ ap (latest own date c.args.owner c.args.date) (take_all _ _ k) in
-    record { value = v; means = subst (Latest own date c.args.owner c.args.date es) (sym v) (latest_means own date c.args.owner c.args.date es) }
+    let v : c.copied.result ≡ latest own date who x es = c.copied.ensures
+    ∙ newest_from_yields_List date _ _ (λ z k q h. search (rules, tests)) c.filter.result _ _ c.max_by_key.ensures.ran
+    (YieldsList-from_filter {s = c.filter.result} _ (fits own date who x) (YieldsList-from_slice es cc)
+    c.filter.ensures.closure (λ z b q k. search (rules, tests)))
+    ∙ latest_is own date who x es in
+    let which : (o : Option g.row.T.Denot) → c.copied.result ≡ o → Latest own date who x es o = elim [
+      | None ↦ λ e. none_fits own date who x es (sym e ∙ v)
+      | Some r ↦ λ e. record {
+        one = search rules;
+        owned = search rules;
+        not_after = search rules;
+        none_later = none_later own date who x es r (sym e ∙ v);
+      }
+    ] in
+    record { value = v; means = which c.copied.result refl }

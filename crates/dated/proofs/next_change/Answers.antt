@@ -1,26 +1,25 @@
-use Rattle.std.proofs.Common.{◌+◌, ◌<◌, get_or, take, sym, ap, ◌∙◌, subst}
-use Rattle.std.proofs.lemmas.List.{take_all}
+use Rattle.std.proofs.Common.{◌≡◌, ◌<◌, ◌∙◌, fold, min, rules, subst, sym, tests}
+use Rattle.std.proofs.lemmas.Iterator.{YieldsList-from_slice}
+use Rattle.std.proofs.lemmas.Iterator.Consumers.{YieldsList-from_filter, fold_from_yields_List}
 use Rattle.dated.specs.Dates.{nearer, Same}
-use Rattle.dated.proofs.LookUps.{same_none, same_more, nearer_past}
+use Rattle.dated.proofs.LookUps.{past, nearest_is, nearest_past, nearest_same}
 use Rattle.dated.proofs.next_change.Goals as goal
-
-pub loop-item-init : goal.loop-item-init
-loop-item-init g c = (λ h. h, same_none g.T.Dated.owner_of g.T.Dated.date_of c.args.owner c.args.date _ c.args.table.now)
-
-pub loop-item-preserved : goal.loop-item-preserved
-loop-item-preserved g c =
-    let own = g.T.Dated.owner_of in
-    let date = g.T.Dated.date_of in
-    let who = c.args.owner in
-    let x = c.args.date in
-    let es = c.args.table.now in
-    let e = c.nearer_of-next.ensures ∙ ap (nearer own date who x c.loop-item.next) c.item-item.is in
-    let y = get_or es c.loop-item.item-index c.item-item.result in
-    (λ h. subst (λ n. x < n) (sym e) (nearer_past own date who x c.loop-item.next y (c.loop-item.invariant.0 h)), subst (λ n. Same own date who (take (c.loop-item.item-index + 1) es) x n) (sym e) (same_more own date who x c.loop-item.next c.loop-item.item-index es c.item-item.result c.loop-item-test.true c.loop-item.invariant.1))
 
 pub returns : goal.returns
 returns g c =
     let own = g.T.Dated.owner_of in
     let date = g.T.Dated.date_of in
+    let who = c.args.owner in
+    let x = c.args.date in
     let es = c.args.table.now in
-    record { past = c.loop-item.invariant.0; same = subst (λ l. Same own date c.args.owner l c.args.date c.loop-item.next) (take_all _ es c.loop-item-test.false) c.loop-item.invariant.1 }
+    let v : c.fold.result ≡ fold (nearer own date who x) 4294967295 es =
+    fold_from_yields_List _ (λ n e. min n (date e)) 4294967295 c.fold.result c.fold.ensures.ran
+    (YieldsList-from_filter {s = c.filter.result} _ (past own date who x) (YieldsList-from_slice es cc)
+    c.filter.ensures.closure (λ z b q k. search (rules, tests)))
+    (λ n z m q k. search rules)
+    ∙ nearest_is own date who x 4294967295 es in
+    record {
+      value = v;
+      past = λ h. subst (λ n. x < n) (sym v) (nearest_past own date who x 4294967295 es h);
+      same = subst (Same own date who es x) (sym v) (nearest_same own date who x 4294967295 es);
+    }
