@@ -8,7 +8,7 @@
 --     flat_prices p        p in every hour
 --     table_prices f hs    the hours hs in order, 24 to a day from day f on; there is no price before them or after
 -- Assumes nothing.
-use Rattle.std.specs.Prelude.{◌≡◌, ℕ, ◌+◌, ◌-◌, ◌*◌, ◌≤◌, cond, ◌&&◌, List, ℤ, pos, ◌≤ℤ◌, Some, None, Ok, Err, Option, Result, nat_le, nat_lt, slice_index_or, unsigned_abs}
+use Rattle.std.specs.Prelude.{◌≡◌, ℕ, ◌+◌, ◌-◌, ◌*◌, ◌≤◌, cond, ◌&&◌, List, All, ℤ, pos, ◌≤ℤ◌, Some, None, Ok, Err, Option, Result, nat_le, nat_lt, slice_index_or, unsigned_abs}
 use Rattle.units.specs.declared.Refusal.{Refusal}
 use Rattle.units.specs.declared.Refusal.TheVariants.{OutOfRange}
 
@@ -22,7 +22,7 @@ abbrev pub HourInRange : Option ℤ → Type 0
 HourInRange hour = (p : ℤ) → hour ≡ Some p → InRange p
 
 abbrev pub HoursInRange : List (Option ℤ) → Type 0
-HoursInRange hours = (k : ℕ) → HourInRange (slice_index_or hours k None)
+HoursInRange hours = All HourInRange hours
 
 abbrev pub Held : Prices → Type 0
 Held prices = (day hour : ℕ) (p : ℤ) → prices day hour ≡ Some p → unsigned_abs p ≤ 300000

@@ -30,6 +30,6 @@ impl Feed for FlatFeed {
     ghost held = { λ f. flat_held f.price f.held };
 
     fn price(&self, day: u32, hour: u32) -> Option<i32> {
-        if hour < 24 { Some(self.price) } else { None }
+        (hour < 24).then_some(self.price)
     }
 }

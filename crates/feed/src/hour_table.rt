@@ -15,27 +15,14 @@ pub struct HourTable {
     ghost held: { HoursInRange hours.items },
 }
 
-fn hour_in_range(hour: Option<i32>) -> bool
-    ensures { Decides result (HourInRange hour) }
-{
-    match hour {
-        Some(price) => in_range(price),
-        None => true,
-    }
-}
-
 fn hours_in_range(hours: &[Option<i32>]) -> bool
     ensures { Decides result (HoursInRange hours.now) }
 {
-    for hour in hours {
-        if !hour_in_range(*hour) {
-            return false;
-        }
-    }
-    true
+    hours.iter().all(|hour| hour.is_none_or(in_range))
 }
 
 impl HourTable {
+    #[tactic(auto, using(std::proofs::lemmas::Bool::Decides::not_from_Decides))]
     pub fn new(first: u32, hours: Vec<Option<i32>>) -> Result<HourTable, Refusal>
         ensures { Takes (HoursInRange hours.items) (λ feed. (feed.first ≡ first) × (feed.hours.items ≡ hours.items)) result }
     {
@@ -52,13 +39,12 @@ impl Feed for HourTable {
     ghost held = { λ f. table_held f.first f.hours.items f.held };
 
     fn price(&self, day: u32, hour: u32) -> Option<i32> {
-        if day < self.first || hour >= 24 {
+        // an early return, since the two look-ups after it return early too
+        if hour >= 24 {
             return None;
         }
-        let place = 24 * (day - self.first) as usize + hour as usize;
-        if place >= self.hours.len() {
-            return None;
-        }
-        self.hours[place]
+        let days = day.checked_sub(self.first)?;
+        let place = 24 * days as usize + hour as usize;
+        *self.hours.get(place)?
     }
 }

@@ -7,5 +7,5 @@ const LARGEST_PRICE: i32 = 300_000;
 pub(crate) fn in_range(price: i32) -> bool
     ensures { Decides result (InRange price) }
 {
-    price >= 0 && price <= LARGEST_PRICE
+    (0..=LARGEST_PRICE).contains(&price)
 }

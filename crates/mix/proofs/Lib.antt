@@ -1,3 +1,2 @@
-pub mod SumLaws
 mod LoadLaws
-mod Tables
+mod Places

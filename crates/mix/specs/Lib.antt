@@ -1,3 +1,3 @@
-pub mod Sums
+pub mod Shares
 pub mod Mixes
 pub mod Loads

@@ -1,18 +1,21 @@
 // A mix of load profiles of one group.
-ghost use Rattle.std.specs.Prelude.{◌≡◌, ◌≤◌, sum};
+ghost use Rattle.std.specs.Prelude.{◌≡◌, length};
+ghost use Rattle.mix.specs.Shares.{shares_in, percent_sum};
 
+use crate::share::Share;
 use shelf::Group;
 
 mod loads;
 mod making;
 
-// One to eight profiles of a group, in the first places of its tables, with percentages that add up to 100.
+// How many profiles a mix may have.
+const MOST_SHARES: usize = 8;
+
+// One to eight profiles of a group, with percentages that add up to 100. The places are fixed, so that a mix needs no heap.
 #[derive(Clone, Copy)]
 pub struct Mix {
     group: Group,
-    count: usize,
-    profiles: [u32; 8],
-    percents: [u8; 8],
-    ghost few: { count ≤ 8 },
-    ghost whole: { sum percents ≡ 100 },
+    shares: [Option<Share>; MOST_SHARES],
+    ghost few: { length shares ≡ 8 },
+    ghost whole: { percent_sum (shares_in shares) ≡ 100 },
 }

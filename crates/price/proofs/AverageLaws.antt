@@ -1,23 +1,23 @@
 -- The unified price is an average of the hours' prices. Assumes nothing.
-use Rattle.std.proofs.Common.{◌≡◌, ℕ, zero, suc, ◌+◌, ◌*◌, ◌/◌, ◌<◌, true, ◌&&◌, eqb, ltb, leb, ℤ, pos, negsuc, ◌+ℤ◌, ◌*ℤ◌, neg_ℤ, ◌≤ℤ◌, is_some, Some, None, Ok, Err, Option, Result, unwrap_or, sym, refl, ap, ◌∙◌, subst, add-mul, arith}
+use Rattle.std.proofs.Common.{◌≡◌, ℕ, zero, suc, ◌+◌, ◌*◌, ◌/◌, ◌<◌, true, ◌&&◌, eqb, ltb, leb, List, [], ◌∷◌, length, fold, ℤ, pos, negsuc, ◌+ℤ◌, ◌*ℤ◌, neg_ℤ, ◌≤ℤ◌, is_some, Some, None, Ok, Err, Option, Result, unwrap_or, sym, refl, ap, ◌∙◌, subst, add-mul, arith}
 use lib.IntN.{neg_ℤ-+ℤ, zero-*ℤ, suc_ℤ-*ℤ}
 use lib.Signed.{≤ℤ_refl}
+use Rattle.std.specs.List.{All, range_with_len}
 use Rattle.std.proofs.lemmas.Int.{ints}
 use Rattle.std.proofs.lemmas.Bool.{cond_both, false≢true}
 use Rattle.units.specs.declared.Refusal.{Refusal}
 use Rattle.units.specs.declared.Refusal.TheVariants.{NoEnergy}
 use Rattle.units.specs.Energy.{floor_div}
-use Rattle.shelf.proofs.Conds.{some_if}
+use Rattle.std.proofs.lemmas.Option.{cond_some}
 use Rattle.shelf.specs.Meaning.{Meaning}
 use Rattle.mix.specs.declared.Mix.{Mix}
 use Rattle.mix.specs.Loads.{load}
-use Rattle.mix.specs.Sums.{sum_to}
-use Rattle.mix.proofs.SumLaws.{all_at}
 use Rattle.feed.specs.Prices.{Prices, flat_prices}
 use Rattle.price.specs.Windows.{window_start, window_days}
-use Rattle.price.specs.Prices.{signed_sum_to, day_priced, day_energy, energy, cost, all_known, all_priced}
+use Rattle.price.specs.Prices.{quarters, quarter_cost, day_priced, day_energy, day_cost, energy, cost, all_known, all_priced}
 use Rattle.price.specs.Rounding.{unified}
 use Rattle.price.specs.Answers.{PriceWithTotals, Within, Near, Averages, Rounds, unified_answer}
+use Rattle.price.proofs.Ranges.{each_from, passes_at, each_quarter, passes_at_hour}
 use Rattle.price.proofs.Floors.{floor_mono, tenth_near, tenth_is, shortened}
 use Rattle.price.proofs.PriceSizes.{some_energy}
 
@@ -33,13 +33,18 @@ times_mono : (e : ℕ) (y z : ℤ) → y ≤ℤ z → (pos e *ℤ y) ≤ℤ (pos
 times_mono zero y z h = omega (arith, ints, zero-*ℤ y, zero-*ℤ z)
 times_mono (suc e) y z h = omega (arith, ints, suc_ℤ-*ℤ (pos e) y, suc_ℤ-*ℤ (pos e) z, times_mono e y z h)
 
-sum_between : (low high : ℤ) (n : ℕ) (g : ℕ → ℕ) (f : ℕ → ℤ) → ((i : ℕ) → i < n → Between low high (g i) (f i)) → Between low high (sum_to n g) (signed_sum_to n f)
-unfolding sum_to signed_sum_to
-sum_between low high zero g f h = (omega (arith, ints, zero-*ℤ low), omega (arith, ints, zero-*ℤ high))
-sum_between low high (suc n) g f h =
-    let before = sum_between low high n g f (λ i lt. h i (omega arith)) in
-    let here = h n (omega arith) in
-    (omega (arith, ints, add_times (sum_to n g) (g n) low, before.0, here.0), omega (arith, ints, add_times (sum_to n g) (g n) high, before.1, here.1))
+sum_between : (low high : ℤ) (g : ℕ → ℕ) (f : ℕ → ℤ) (xs : List ℕ) (e : ℕ) (c : ℤ) → Between low high e c → All (λ x. Between low high (g x) (f x)) xs → Between low high (fold (λ s x. s + g x) e xs) (fold (λ s x. s +ℤ f x) c xs)
+sum_between low high g f [] e c so_far each = so_far
+sum_between low high g f (x ∷ xs) e c so_far each =
+    let first : 0 < length (x ∷ xs) = omega arith in
+    let here = each 0 x first in
+    sum_between low high g f xs (e + g x) (c +ℤ f x)
+    (omega (arith, ints, add_times e (g x) low, so_far.0, here.0), omega (arith, ints, add_times e (g x) high, so_far.1, here.1))
+    (λ k d lt. each (suc k) d (omega arith))
+
+-- no energy costs nothing
+none_between : (low high : ℤ) → Between low high 0 (pos 0)
+none_between low high = (omega (arith, ints, zero-*ℤ low), omega (arith, ints, zero-*ℤ high))
 
 price_between : (low high : ℤ) (o : Option ℤ) → is_some o ≡ true → ((p : ℤ) → o ≡ Some p → (low ≤ℤ p) × (p ≤ℤ high)) → (low ≤ℤ unwrap_or o (pos 0)) × (unwrap_or o (pos 0) ≤ℤ high)
 price_between low high None some h = absurd (false≢true some)
@@ -75,17 +80,20 @@ rounded_near low high c e some between =
     (subst (λ z. unified c e ≤ℤ z) (shortened e (high +ℤ pos 5) some) (floor_mono (c +ℤ pos (5 * e)) (pos e *ℤ (high +ℤ pos 5)) (10 * e) ten to))
 
 module _ (m : Meaning) (prices : Prices) (mix : Mix) (first n : ℕ) (priced : all_priced prices first n ≡ true) (low high : ℤ) (within : Within low high prices first n) where
-  quarter_between : (i q : ℕ) → i < n → q < 96 → Between low high (load m mix (first + i) q) (pos (load m mix (first + i) q) *ℤ unwrap_or (prices (first + i) (q / 4)) (pos 0))
-  quarter_between i q in-days in-day =
+  quarter_between : (i q : ℕ) → i < n → q < 96 → Between low high (load m mix (first + i) q) (quarter_cost m prices mix (first + i) q)
+  quarter_between i q in_days in_day =
       let day = first + i in
       let hour = q / 4 in
       let on_hour : hour < 24 = omega arith in
-      let some = all_at 24 hour (λ h. is_some (prices day h)) (all_at n i (λ k. day_priced prices (first + k)) priced in-days) on_hour in
-      let near = price_between low high (prices day hour) some (λ p e. within i hour p in-days on_hour e) in
+      let some = passes_at_hour (λ h. is_some (prices day h)) hour (passes_at (day_priced prices) first n i priced in_days) on_hour in
+      let near = price_between low high (prices day hour) some (λ p e. within i hour p in_days on_hour e) in
       (times_mono (load m mix day q) low _ near.0, times_mono (load m mix day q) _ high near.1)
 
   cost_between : Between low high (energy m mix first n) (cost m prices mix first n)
-  cost_between = sum_between low high n (λ i. day_energy m mix (first + i)) _ (λ i in-days. sum_between low high 96 (load m mix (first + i)) _ (λ q in-day. quarter_between i q in-days in-day))
+  cost_between =
+      sum_between low high (day_energy m mix) (day_cost m prices mix) (range_with_len first n) 0 (pos 0) (none_between low high)
+      (each_from (λ day. Between low high (day_energy m mix day) (day_cost m prices mix day)) first n (λ i in_days. sum_between low high (load m mix (first + i)) (quarter_cost m prices mix (first + i)) quarters 0 (pos 0) (none_between low high)
+      (each_quarter (λ q. Between low high (load m mix (first + i) q) (quarter_cost m prices mix (first + i) q)) (λ q in_day. quarter_between i q in_days in_day))))
 
 pub averages : (m : Meaning) (prices : Prices) (mix : Mix) (month : ℕ) → Averages prices month (unified_answer m prices mix month)
 averages m prices mix month =
@@ -106,7 +114,7 @@ averages m prices mix month =
 
 flat_within : (p : ℤ) (first n : ℕ) → Within p p (flat_prices p) first n
 flat_within p first n i hour q in-days on_hour e =
-    let same : p ≡ q = (some_if (ltb hour 24) p q e).1 in
+    let same : p ≡ q = (cond_some (ltb hour 24) p q e).1 in
     (subst (λ z. p ≤ℤ z) same (≤ℤ_refl p), subst (λ z. z ≤ℤ p) same (≤ℤ_refl p))
 
 -- between one price and the same price there is no other

@@ -1,4 +1,4 @@
-mod SignedSums
+mod Ranges
 mod Signs
 mod Spans
 mod PriceSizes

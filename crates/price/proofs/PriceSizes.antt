@@ -1,7 +1,8 @@
 -- No price of a cost within its energy passes 30,000 hundredths. Assumes nothing.
 use Rattle.std.proofs.Common.{◌≡◌, ℕ, suc, ◌+◌, ◌-◌, ◌*◌, ◌/◌, ◌<◌, ◌≤◌, false, eqb, ltb, leb, ℤ, pos, negsuc, nat_abs, Ok, Err, Result, sym, ap, ◌∙◌, ⊎_elim, arith}
 use Rattle.std.proofs.lemmas.Nat.{div_below}
-use Rattle.std.proofs.lemmas.Bool.{cond_both, cond-true, cond-false, ltb-true, eqb-false, cases_lt, cases_Bool, le-leb}
+use Rattle.std.proofs.lemmas.Bool.Decides.{nat_tests}
+use Rattle.std.proofs.lemmas.Bool.{cond_both, cond-true, cond-false, ltb-true, cases_Bool, le-leb}
 use Rattle.std.specs.Result.{result_map_both}
 use Rattle.units.specs.declared.Refusal.{Refusal}
 use Rattle.units.specs.declared.Refusal.TheVariants.{OutOfRange, NoEnergy}
@@ -10,7 +11,7 @@ use Rattle.price.specs.Rounding.{unified, held, priced}
 use Rattle.price.specs.Answers.{PriceWithTotals, total_answer}
 
 pub some_energy : (e : ℕ) → eqb e 0 ≡ false → 0 < e
-some_energy e none = ⊎_elim (λ lt. lt) (λ ge. absurd (eqb-false e 0 none (omega arith))) (cases_lt 0 e)
+some_energy e none = grind (arith, nat_tests)
 
 above_size : (a e : ℕ) → 0 < e → a ≤ 300005 * e → a / (10 * e) ≤ 30000
 above_size a e h k =

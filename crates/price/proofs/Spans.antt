@@ -2,7 +2,7 @@
 use Rattle.std.proofs.Common.{◌≡◌, ℕ, zero, suc, ◌+◌, ◌-◌, ◌*◌, ◌≤◌, leb, Some, sym, ap, add-zero, arith}
 use Rattle.calendar.specs.Dates.{month_start, on_months}
 use Rattle.calendar.proofs.Months.{first_next, first_mono, first_end, length_high}
-use Rattle.shelf.proofs.Conds.{some_if}
+use Rattle.std.proofs.lemmas.Option.{cond_some}
 
 span : (k j : ℕ) → month_start (k + j) ≤ month_start k + 31 * j
 span k zero = omega (arith, ap month_start (add-zero k))
@@ -12,7 +12,7 @@ span k (suc j) =
 
 -- the first day that a month is told to have is its own
 pub start_is : (k x : ℕ) → Some x ≡ on_months k (month_start k) → x ≡ month_start k
-start_is k x e = sym (some_if (leb k 479) (month_start k) x (sym e)).1
+start_is k x e = sym (cond_some (leb k 479) (month_start k) x (sym e)).1
 
 pub record Span (month : ℕ) : Type 0 where
   pub forward : month_start (month - 13) ≤ month_start (month - 1)

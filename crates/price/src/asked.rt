@@ -2,40 +2,28 @@
 ghost use Rattle.std.specs.Prelude.{◌≡◌};
 ghost use Rattle.price.specs.Prices.{all_known, day_priced, all_priced};
 
+use crate::basis::Basis;
 use crate::window::Window;
 use feed::Feed;
-use mix::Mix;
 use shelf::Shelf;
 
-pub(crate) fn all_known<S: Shelf>(shelf: &S, mix: &Mix, window: Window) -> bool
-    ensures { result ≡ all_known (S.meaning shelf.now) mix.now window.first window.days }
-{
-    for i in 0..window.days {
-        if !mix.known_on(shelf, window.first + i) {
-            return false;
-        }
+impl<S: Shelf, F: Feed> Basis<'_, S, F> {
+    pub(crate) fn all_known(&self, window: Window) -> bool
+        ensures { result ≡ all_known (S.meaning self.now.shelf.now) self.now.mix.now window.first window.days }
+    {
+        window.days().all(|day| self.mix.known_on(self.shelf, day))
     }
-    true
-}
 
-fn day_priced<F: Feed>(feed: &F, day: u32) -> bool
-    ensures { result ≡ day_priced (F.prices feed.now) day }
-{
-    for hour in 0..24 {
-        if feed.price(day, hour).is_none() {
-            return false;
-        }
+    #[tactic(auto, unfolding(crate::specs::Prices::hours))]
+    fn day_priced(&self, day: u32) -> bool
+        ensures { result ≡ day_priced (F.prices self.now.feed.now) day }
+    {
+        (0..24).all(|hour| self.feed.price(day, hour).is_some())
     }
-    true
-}
 
-pub(crate) fn all_priced<F: Feed>(feed: &F, window: Window) -> bool
-    ensures { result ≡ all_priced (F.prices feed.now) window.first window.days }
-{
-    for i in 0..window.days {
-        if !day_priced(feed, window.first + i) {
-            return false;
-        }
+    pub(crate) fn all_priced(&self, window: Window) -> bool
+        ensures { result ≡ all_priced (F.prices self.now.feed.now) window.first window.days }
+    {
+        window.days().all(|day| self.day_priced(day))
     }
-    true
 }

@@ -2,6 +2,7 @@
 #![tactic(auto)]
 
 mod asked;
+mod basis;
 mod laws;
 mod pricing;
 mod rounding;

@@ -2,10 +2,10 @@
 ghost use Rattle.std.specs.Prelude.{◌≡◌};
 ghost use Rattle.price.specs.Answers.{told, total_answer, window_answer, unified_answer, Averages};
 
-use crate::asked::{all_known, all_priced};
+use crate::basis::Basis;
 use crate::rounding::rounded_price;
-use crate::totals::{Totals, totals_over};
-use crate::window::{Window, window_before};
+use crate::totals::Totals;
+use crate::window::Window;
 use feed::Feed;
 use mix::Mix;
 use shelf::Shelf;
@@ -23,31 +23,26 @@ pub struct UnifiedPrice {
 fn price_of(totals: Totals) -> Result<UnifiedPrice, Refusal>
     ensures { told result ≡ total_answer totals.cost totals.energy }
 {
-    match rounded_price(totals.cost, totals.energy) {
-        Ok(price) => Ok(UnifiedPrice {
-            price,
-            cost: totals.cost,
-            energy: totals.energy,
-        }),
-        Err(refusal) => Err(refusal),
-    }
+    let price = rounded_price(totals.cost, totals.energy)?;
+    Ok(UnifiedPrice {
+        price,
+        cost: totals.cost,
+        energy: totals.energy,
+    })
 }
 
-fn price_over<S: Shelf, F: Feed>(
-    shelf: &S,
-    feed: &F,
-    mix: &Mix,
-    window: Window,
-) -> Result<UnifiedPrice, Refusal>
-    ensures { told result ≡ window_answer (S.Shelf.meaning shelf.now) (F.Feed.prices feed.now) mix.now window.first window.days }
-{
-    if !all_known(shelf, mix, window) {
-        return Err(Refusal::DayUnknown);
+impl<S: Shelf, F: Feed> Basis<'_, S, F> {
+    fn price(&self, window: Window) -> Result<UnifiedPrice, Refusal>
+        ensures { told result ≡ window_answer (S.meaning self.now.shelf.now) (F.prices self.now.feed.now) self.now.mix.now window.first window.days }
+    {
+        if !self.all_known(window) {
+            return Err(Refusal::DayUnknown);
+        }
+        if !self.all_priced(window) {
+            return Err(Refusal::HourMissing);
+        }
+        price_of(self.totals(window))
     }
-    if !all_priced(feed, window) {
-        return Err(Refusal::HourMissing);
-    }
-    price_of(totals_over(shelf, feed, mix, window))
 }
 
 // The price for bills of a month, from the twelve months that end two before it.
@@ -60,8 +55,6 @@ pub fn unified_price<S: Shelf, F: Feed>(
     ensures answer { told result ≡ unified_answer (S.Shelf.meaning shelf.now) (F.Feed.prices feed.now) mix.now month }
     ensures average { Averages (F.Feed.prices feed.now) month (told result) }
 {
-    let Some(window) = window_before(month) else {
-        return Err(Refusal::OutOfRange);
-    };
-    price_over(shelf, feed, mix, window)
+    let window = Window::before(month).ok_or(Refusal::OutOfRange)?;
+    Basis { shelf, feed, mix }.price(window)
 }

@@ -16,10 +16,10 @@ fn quotient(cost: i64, energy: u64) -> i128
 fn in_hundredths(count: i128) -> Result<PriceHundredths, Refusal>
     ensures { counted result ≡ held count }
 {
-    let Ok(count) = i32::try_from(count) else {
-        return Err(Refusal::OutOfRange);
-    };
-    PriceHundredths::new(count).ok_or(Refusal::OutOfRange)
+    i32::try_from(count)
+        .ok()
+        .and_then(PriceHundredths::new)
+        .ok_or(Refusal::OutOfRange)
 }
 
 // The cost by the energy, from cents per MWh to hundredths of a cent per kWh, halves up. The cost is in cents per MWh times the

@@ -3,6 +3,7 @@ ghost use Rattle.std.specs.Prelude.{◌≡◌, ◌≤◌};
 ghost use Rattle.mix.specs.Loads.{known_on, load};
 
 use super::Mix;
+use crate::share::Share;
 use shelf::{Group, Shelf};
 
 impl Mix {
@@ -16,12 +17,10 @@ impl Mix {
     pub fn known_on<S: Shelf>(&self, shelf: &S, day: u32) -> bool
         ensures { result ≡ known_on (S.meaning shelf.now) self.now day }
     {
-        for i in 0..self.count {
-            if shelf.value(self.profiles[i], day, 0).is_none() {
-                return false;
-            }
-        }
-        true
+        self.shares
+            .iter()
+            .flatten()
+            .all(|share| shelf.value(share.profile, day, 0).is_some())
     }
 
     // Percentage times value in a quarter hour, added over its profiles; what is unknown counts 0.
@@ -29,11 +28,10 @@ impl Mix {
         ensures value { result ≡ load (S.meaning shelf.now) self.now day quarter }
         ensures bound { result ≤ 999900 }
     {
-        let mut sum: u32 = 0;
-        for i in 0..self.count {
-            let value = shelf.value(self.profiles[i], day, quarter).unwrap_or(0);
-            sum += self.percents[i] as u32 * value as u32;
-        }
-        sum
+        let load = |share: &Share| {
+            let value = shelf.value(share.profile, day, quarter).unwrap_or(0);
+            u32::from(share.percent) * u32::from(value)
+        };
+        self.shares.iter().flatten().map(load).sum()
     }
 }

@@ -1,13 +1,11 @@
-use Rattle.std.proofs.Common.{is_some, sym, ap, ◌∙◌}
-use Rattle.mix.proofs.SumLaws.{all_none, all_more, all_stop}
+use Rattle.std.proofs.Common.{rules, tests}
+use Rattle.std.proofs.lemmas.Iterator.Search.{all_from_yields_List}
 use Rattle.mix.proofs.LoadLaws.{known_quarter}
+use Rattle.mix.proofs.Places.{shares_yield}
 use Rattle.mix.proofs.mixes.Mix.known_on.Goals as goal
 
-pub loop-i-init : goal.loop-i-init
-loop-i-init g c = all_none _
-
-pub loop-i-preserved : goal.loop-i-preserved
-loop-i-preserved g c = all_more c.loop-i.i _ c.loop-i.invariant (sym c.if-is_none.ensures ∙ ap is_some c.value.ensures ∙ known_quarter _)
-
-pub returns-then-is_none : goal.returns-then-is_none
-returns-then-is_none g c = all_stop _ c.loop-i.i _ c.loop-i-test.true (sym c.if-is_none.ensures ∙ ap is_some c.value.ensures ∙ known_quarter _)
+pub returns : goal.returns
+returns g c =
+    all_from_yields_List _ _ _ _ c.all.ensures.ran
+    (shares_yield c.flatten.result c.args.self.now.shares (λ x j b. (b.0, b.1)) (cc) c.flatten.ensures.front c.flatten.ensures.back c.flatten.ensures.done)
+    (λ x b q k. search (rules, tests, known_quarter))

@@ -1,10 +1,17 @@
-use Rattle.std.proofs.Common.{ap, ◌∙◌, arith, take_all}
-use Rattle.mix.specs.Mixes.{percent_sum}
-use Rattle.mix.proofs.Tables.{filled_more}
+use Rattle.std.proofs.Common.{◌≡◌, refl, ap, ◌∙◌, None, rules}
+use Rattle.std.specs.List.{slice_get}
+use Rattle.mix.specs.Shares.{shares_in, percent_sum}
+use Rattle.mix.proofs.Places.{made_of, item_copied, shares_placed}
 use Rattle.mix.proofs.mixes.making.filled.Goals as goal
+use Rattle.mix.proofs.mixes.making.filled.Goals.{After-from_fn}
 
-pub loop-i-preserved : goal.loop-i-preserved
-loop-i-preserved c = filled_more c.args.shares.now c.loop-i.i c.loop-i.profiles c.loop-i.percents (omega arith) c.loop-i-test.true c.loop-i.invariant
+held : (c : goal.After-from_fn) → shares_in c.from_fn.result ≡ c.args.shares.now
+held c =
+    ap shares_in (made_of _ (slice_get c.args.shares.now) _ (λ i y q k. search (rules, item_copied)) c.from_fn.result 8 None c.from_fn.ensures.items)
+    ∙ shares_placed c.args.shares.now 8 c.requires.few
 
 pub invariant_of-result : goal.invariant_of-result
-invariant_of-result c = record { few = c.requires.few; whole = c.loop-i.invariant.adds ∙ ap percent_sum (take_all c.loop-i.i c.args.shares.now c.loop-i-test.false) ∙ c.requires.whole }
+invariant_of-result c = record { few = c.from_fn.ensures.items.long; whole = ap percent_sum (held c) ∙ c.requires.whole }
+
+pub returns : goal.returns
+returns c = record { grouped = refl; held = held (goal.at.returns c).After-from_fn }
