@@ -1,3 +1,4 @@
+pub mod AllKnown
 pub mod Flats
 pub mod TypedProfiles
 pub mod Typeds

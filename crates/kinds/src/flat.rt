@@ -1,11 +1,12 @@
 // One profile with one value in every quarter hour of every day.
-ghost use Rattle.std.specs.Prelude.{◌≡◌, ◌≤◌};
+ghost use Rattle.std.specs.Prelude.{◌≡◌, ◌≤◌, ◌&&◌, ◌==◌, nat_le, if◌then◌else◌};
 ghost use Rattle.units.specs.Makings.{Makes};
 ghost use Rattle.kinds.specs.Flats.{flat_meaning};
 ghost use Rattle.kinds.specs.FlatRows.{flat_lawful};
 
+use crate::known::refuse;
 use calendar::LAST_DAY;
-use shelf::{DayRow, Group, LARGEST_VALUE, Shelf, TellShelf};
+use shelf::{DayRow, Group, LARGEST_VALUE, Shelf, Tell, TellShelf};
 use units::Refusal;
 
 #[derive(Clone, Copy)]
@@ -24,6 +25,13 @@ impl Flat {
         }
         Ok(Flat { value, group })
     }
+
+    // The value of a profile's day, where they exist.
+    fn value_on(&self, profile: u32, day: u32) -> Option<u16>
+        ensures { result ≡ (if profile == 0 && nat_le day 14609 then Some self.now.value else None) }
+    {
+        (profile == 0 && day <= LAST_DAY).then_some(self.value)
+    }
 }
 
 impl Shelf for Flat {
@@ -36,34 +44,22 @@ impl Shelf for Flat {
     }
 
     fn group(&self, profile: u32) -> Option<Group> {
-        if profile == 0 { Some(self.group) } else { None }
+        (profile == 0).then_some(self.group)
     }
 
     fn row(&self, profile: u32, day: u32) -> Option<DayRow> {
-        if profile == 0 && day <= LAST_DAY {
-            DayRow::new([self.value; 96]).ok()
-        } else {
-            None
-        }
+        let value = self.value_on(profile, day)?;
+        DayRow::new([value; 96]).ok()
     }
 
     fn day_sum(&self, profile: u32, day: u32) -> Option<u32> {
-        if profile == 0 && day <= LAST_DAY {
-            Some(96 * self.value as u32)
-        } else {
-            None
-        }
+        self.value_on(profile, day)
+            .map(|value| 96 * u32::from(value))
     }
 }
 
 impl TellShelf for Flat {
-    fn tell(&mut self, profile: u32, day: u32, number: i32) -> Result<(), Refusal> {
-        if profile > 0 {
-            return Err(Refusal::NotFound);
-        }
-        if day > LAST_DAY {
-            return Err(Refusal::NoSuchDate);
-        }
-        Err(Refusal::AlreadyKnown)
+    fn tell(&mut self, tell: Tell) -> Result<(), Refusal> {
+        refuse(self, tell)
     }
 }

@@ -2,6 +2,7 @@
 #![tactic(auto)]
 
 mod flat;
+mod known;
 mod typed;
 mod typed_profile;
 

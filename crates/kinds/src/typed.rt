@@ -7,9 +7,10 @@ ghost use Rattle.kinds.specs.Typeds.{typed_meaning};
 ghost use Rattle.std.proofs.Common.{arith};
 ghost use Rattle.kinds.specs.TypedDays.{typed_lawful};
 
+use crate::known::refuse;
 use crate::typed_profile::TypedProfile;
-use calendar::{Calendar, LAST_DAY, season_of};
-use shelf::{DayRow, Group, MOST_PROFILES, Shelf, TellShelf};
+use calendar::{Calendar, season_of};
+use shelf::{DayRow, Group, MOST_PROFILES, Shelf, Tell, TellShelf};
 use units::Refusal;
 
 #[derive(Drop)]
@@ -34,16 +35,10 @@ impl<C: Calendar> Typed<C> {
     fn known_row(&self, profile: u32, day: u32) -> Option<&DayRow>
         ensures { values_of (option_map (λ x. x.now) result) ≡ (typed_meaning (C.Calendar.kinds self.now.calendar) (self.now.profiles.items)).known profile day }
     {
-        if profile as usize >= self.profiles.len() {
-            return None;
-        }
-        let Some(season) = season_of(day) else {
-            return None;
-        };
-        let Some(kind) = self.calendar.kind(day) else {
-            return None;
-        };
-        Some(self.profiles[profile as usize].row(season, kind))
+        let typed = self.profiles.get(profile as usize)?;
+        let season = season_of(day)?;
+        let kind = self.calendar.kind(day)?;
+        Some(typed.row(season, kind))
     }
 }
 
@@ -57,29 +52,16 @@ impl<C: Calendar> Shelf for Typed<C> {
     }
 
     fn group(&self, profile: u32) -> Option<Group> {
-        if (profile as usize) < self.profiles.len() {
-            Some(self.profiles[profile as usize].group)
-        } else {
-            None
-        }
+        self.profiles.get(profile as usize).map(|typed| typed.group)
     }
 
     fn row(&self, profile: u32, day: u32) -> Option<DayRow> {
-        match self.known_row(profile, day) {
-            Some(row) => Some(*row),
-            None => None,
-        }
+        self.known_row(profile, day).copied()
     }
 }
 
 impl<C: Calendar> TellShelf for Typed<C> {
-    fn tell(&mut self, profile: u32, day: u32, number: i32) -> Result<(), Refusal> {
-        if profile as usize >= self.profiles.len() {
-            return Err(Refusal::NotFound);
-        }
-        if day > LAST_DAY {
-            return Err(Refusal::NoSuchDate);
-        }
-        Err(Refusal::AlreadyKnown)
+    fn tell(&mut self, tell: Tell) -> Result<(), Refusal> {
+        refuse(self, tell)
     }
 }

@@ -6,7 +6,7 @@ ghost use Rattle.layers.specs.DayFactors.{FactorRule, scaled, scaled_row, factor
 ghost use Rattle.layers.specs.Scaling.{factor_lawful};
 
 use calendar::day_of_year;
-use shelf::{DayRow, Group, LARGEST_VALUE, Shelf, TellShelf};
+use shelf::{DayRow, Group, LARGEST_VALUE, Shelf, Tell, TellShelf};
 use units::Refusal;
 
 // The factors are in ten-thousandths, 1 January's first.
@@ -23,30 +23,21 @@ const LARGEST_FACTOR: u16 = 20_000;
 fn scaled(value: u16, factor: u16) -> u16
     ensures { result ≡ scaled factor value }
 {
-    ((value as u32 * factor as u32 + 5_000) / 10_000).min(LARGEST_VALUE as u32) as u16
+    ((u32::from(value) * u32::from(factor) + 5_000) / 10_000).min(u32::from(LARGEST_VALUE)) as u16
 }
 
 fn scaled_row(row: DayRow, factor: u16) -> [u16; 96]
     ensures { result ≡ scaled_row factor row.values }
 {
-    let mut values = row.values();
-    for value in &mut values {
-        *value = scaled(*value, factor);
-    }
-    values
+    row.values().map(|value| scaled(value, factor))
 }
 
 impl<A: Shelf + Drop> DayFactor<A> {
     pub fn new(below: A, profile: u32, factors: [u16; 366]) -> Result<DayFactor<A>, Refusal>
         ensures { Makes (FactorRule (A.Shelf.meaning below).count profile factors) (λ s. (s.below ≡ below) × (s.profile ≡ profile) × (s.factors ≡ factors)) result }
     {
-        if profile >= below.count() {
+        if profile >= below.count() || factors.iter().any(|factor| *factor > LARGEST_FACTOR) {
             return Err(Refusal::RuleBroken);
-        }
-        for factor in &factors {
-            if *factor > LARGEST_FACTOR {
-                return Err(Refusal::RuleBroken);
-            }
         }
         Ok(DayFactor {
             below,
@@ -60,10 +51,7 @@ impl<A: Shelf> DayFactor<A> {
     fn factor_on(&self, day: u32) -> Option<u16>
         ensures { result ≡ on_days day (slice_index self.now.factors (day_of_year day)) }
     {
-        match day_of_year(day) {
-            Some(at) => Some(self.factors[at as usize]),
-            None => None,
-        }
+        day_of_year(day).map(|at| self.factors[at as usize])
     }
 }
 
@@ -81,21 +69,17 @@ impl<A: Shelf> Shelf for DayFactor<A> {
     }
 
     fn row(&self, profile: u32, day: u32) -> Option<DayRow> {
+        let row = self.below.row(profile, day)?;
         if profile != self.profile {
-            return self.below.row(profile, day);
+            return Some(row);
         }
-        let Some(row) = self.below.row(profile, day) else {
-            return None;
-        };
-        let Some(factor) = self.factor_on(day) else {
-            return None;
-        };
+        let factor = self.factor_on(day)?;
         DayRow::new(scaled_row(row, factor)).ok()
     }
 }
 
 impl<A: TellShelf> TellShelf for DayFactor<A> {
-    fn tell(&mut self, profile: u32, day: u32, number: i32) -> Result<(), Refusal> {
-        self.below.tell(profile, day, number)
+    fn tell(&mut self, tell: Tell) -> Result<(), Refusal> {
+        self.below.tell(tell)
     }
 }

@@ -4,12 +4,10 @@
 ghost use Rattle.std.specs.Prelude.{◌≤◌, Ok, Err};
 
 mod published;
-mod shown;
 mod yearly;
 
-use anyhow::anyhow;
 use published::{BEFORE_APPLICATION, FIRST_YEAR, Group, PRICES, STANDARD, TEMPERATURE, YEAR};
-use shown::InCents;
+use units::PriceHundredths;
 use yearly::yearly_price;
 
 // Prints a group's prices, and returns how many agree.
@@ -19,28 +17,35 @@ fn print_group(rt: &impl Print, group: &Group) -> anyhow::Result<usize>
     let name = group.name;
     println!(rt; "{name}: month of application, price recomputed, price printed")?;
     let mut agreeing = 0;
-    for k in 0..PRICES {
-        let Ok(price) = yearly_price(&group.energies[k..k + YEAR], &group.costs[k..k + YEAR]) else {
-            return Err(anyhow!("no price"));
-        };
-        let recomputed = price.count().unsigned_abs();
-        let printed = group.printed[k] as u32;
-        print_price(rt, k + BEFORE_APPLICATION, recomputed, printed)?;
-        if recomputed == printed {
+    let years = group.months.array_windows::<YEAR>();
+    for (k, (year, printed)) in years.zip(&group.printed).enumerate() {
+        let price = yearly_price(year)?;
+        print_price(rt, k + BEFORE_APPLICATION, price, *printed)?;
+        if price.count() == i32::from(*printed) {
             agreeing += 1;
         }
     }
     Ok(agreeing)
 }
 
-// Prints the price of a month of application, counted from the first.
-fn print_price(rt: &impl Print, month: usize, price: u32, printed: u32) -> anyhow::Result<()> {
+// Prints the price of a month of application, counted from the first, beside the printed one, in hundredths.
+fn print_price(
+    rt: &impl Print,
+    month: usize,
+    price: PriceHundredths,
+    printed: u16,
+) -> anyhow::Result<()> {
     let year = FIRST_YEAR + month / 12;
     let place = month % 12 + 1;
-    let recomputed = InCents(price);
-    let in_table = InCents(printed);
-    let verdict = if price == printed { "agree" } else { "differ" };
-    println!(rt; "{year}-{place:02} {recomputed} {in_table} {verdict}")?;
+    // by its digits, since nothing keeps a printed number within what a price holds
+    let whole = printed / 100;
+    let hundredths = printed % 100;
+    let verdict = if price.count() == i32::from(printed) {
+        "agree"
+    } else {
+        "differ"
+    };
+    println!(rt; "{year}-{place:02} {price} {whole}.{hundredths:02} {verdict}")?;
     Ok(())
 }
 

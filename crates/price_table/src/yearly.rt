@@ -1,27 +1,18 @@
 // The price of a year, from the energies and the costs of its months.
-ghost use Rattle.std.specs.Prelude.{◌≡◌, ◌*◌, ◌≤◌, length, pos, sum};
+ghost use Rattle.std.specs.Prelude.{◌≡◌, ◌*◌, ◌≤◌, length, pos, sum_by};
 ghost use Rattle.price.specs.Rounding.{counted, priced};
+ghost use Rattle.price_table.specs.declared.published.Month.{Month as OneMonth};
 
+use crate::published::Month;
 use price::rounded_price;
 use units::{PriceHundredths, Refusal};
 
-fn year_sum(months: &[u16]) -> u32
-    requires { length months.now ≤ 12 }
-    ensures value { result ≡ sum months.now }
-    ensures bound { result ≤ 786420 }
-{
-    let mut sum: u32 = 0;
-    for month in months {
-        sum += *month as u32;
-    }
-    sum
-}
-
 // Hundredths of a kWh and thousandths of a euro: with 10,000 of the cost's unit to a cent per MWh.
-pub(crate) fn yearly_price(energies: &[u16], costs: &[u16]) -> Result<PriceHundredths, Refusal>
-    requires { (length energies.now ≤ 12) × (length costs.now ≤ 12) }
-    ensures { counted result ≡ priced (pos (10000 * sum costs.now)) (sum energies.now) }
+pub(crate) fn yearly_price(months: &[Month]) -> Result<PriceHundredths, Refusal>
+    requires { length months.now ≤ 12 }
+    ensures { counted result ≡ priced (pos (10000 * sum_by (λ (m : OneMonth). m.cost) months.now)) (sum_by (λ (m : OneMonth). m.energy) months.now) }
 {
-    let cost = 10_000 * year_sum(costs) as i64;
-    rounded_price(cost, year_sum(energies) as u64)
+    let energy: u32 = months.iter().map(|month| u32::from(month.energy)).sum();
+    let cost: u32 = months.iter().map(|month| u32::from(month.cost)).sum();
+    rounded_price(10_000 * i64::from(cost), u64::from(energy))
 }

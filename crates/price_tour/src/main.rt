@@ -3,8 +3,7 @@
 
 mod tariffs;
 
-use anyhow::anyhow;
-use feed::{FlatFeed, HourTable};
+use feed::{Feed, FlatFeed, HourTable};
 use kinds::Flat;
 use mix::{Mix, Share};
 use price::{UnifiedPrice, flat_unified_price, unified_price};
@@ -31,18 +30,16 @@ fn priced_flat(value: u16, price: i32, month: u32) -> Result<UnifiedPrice, Refus
     flat_unified_price(&shelf, &feed, &mix, month)
 }
 
-fn priced_by_hours(feed: &HourTable, month: u32) -> Result<UnifiedPrice, Refusal> {
-    let shelf = Flat::new(1_000, Group::T)?;
+// The price of a mix of group T whose profile is of a given group.
+fn priced_by<F: Feed>(feed: &F, group: Group, month: u32) -> Result<UnifiedPrice, Refusal> {
+    let shelf = Flat::new(1_000, group)?;
     let mix = Mix::new(&shelf, Group::T, &SHARES)?;
     unified_price(&shelf, feed, &mix, month)
 }
 
 // A mix of a group that its profile is not of.
 fn of_other_group() -> Result<UnifiedPrice, Refusal> {
-    let shelf = Flat::new(1_000, Group::S)?;
-    let feed = FlatFeed::new(5_710)?;
-    let mix = Mix::new(&shelf, Group::T, &SHARES)?;
-    unified_price(&shelf, &feed, &mix, 90)
+    priced_by(&FlatFeed::new(5_710)?, Group::S, 90)
 }
 
 fn print_answer(
@@ -57,33 +54,34 @@ fn print_answer(
             let energy = made.energy;
             println!(rt; "{name}: price {count}, cost {cost}, energy {energy}")?;
         }
-        Err(refusal) => {
-            let number = refusal.number();
-            println!(rt; "{name}: refusal {number}")?;
-        }
+        Err(refusal) => println!(rt; "{name}: {refusal}")?,
     }
     Ok(())
 }
 
 fn print_flat(rt: HostRuntime) -> anyhow::Result<()> {
-    print_answer(rt, "57.10 euros in month 90", priced_flat(1_000, 5_710, 90))?;
-    print_answer(rt, "44.80 euros in month 91", priced_flat(1_000, 4_480, 91))?;
-    print_answer(rt, "half a hundredth", priced_flat(9_999, 5_715, 100))?;
-    print_answer(rt, "the most", priced_flat(9_999, 300_000, 479))?;
-    print_answer(rt, "too high a price", priced_flat(1_000, 300_001, 90))?;
-    print_answer(rt, "below zero", priced_flat(1_000, -1, 90))?;
-    print_answer(rt, "too early a month", priced_flat(1_000, 5_710, 12))?;
-    print_answer(rt, "too late a month", priced_flat(1_000, 5_710, 480))?;
-    print_answer(rt, "no energy", priced_flat(0, 5_710, 13))?;
-    print_answer(rt, "another group", of_other_group())
+    let answers = [
+        ("57.10 euros in month 90", priced_flat(1_000, 5_710, 90)),
+        ("44.80 euros in month 91", priced_flat(1_000, 4_480, 91)),
+        ("half a hundredth", priced_flat(9_999, 5_715, 100)),
+        ("the most", priced_flat(9_999, 300_000, 479)),
+        ("too high a price", priced_flat(1_000, 300_001, 90)),
+        ("below zero", priced_flat(1_000, -1, 90)),
+        ("too early a month", priced_flat(1_000, 5_710, 12)),
+        ("too late a month", priced_flat(1_000, 5_710, 480)),
+        ("no energy", priced_flat(0, 5_710, 13)),
+        ("another group", of_other_group()),
+    ];
+    for (name, answer) in answers {
+        print_answer(rt, name, answer)?;
+    }
+    Ok(())
 }
 
 fn print_hours(rt: HostRuntime) -> anyhow::Result<()> {
-    let Ok(feed) = HourTable::new(FIRST, two_tariffs(rt.alloc())?) else {
-        return Err(anyhow!("a price is out of range"));
-    };
-    print_answer(rt, "two tariffs", priced_by_hours(&feed, 13))?;
-    print_answer(rt, "a month later", priced_by_hours(&feed, 14))
+    let feed = HourTable::new(FIRST, two_tariffs(rt.alloc())?)?;
+    print_answer(rt, "two tariffs", priced_by(&feed, Group::T, 13))?;
+    print_answer(rt, "a month later", priced_by(&feed, Group::T, 14))
 }
 
 fn main(rt: HostRuntime) -> anyhow::Result<()> {

@@ -7,15 +7,9 @@ pub const FIRST: u32 = 0;
 const DAYS: usize = 366;
 
 pub(crate) fn two_tariffs(heap: Global) -> anyhow::Result<Vec<Option<i32>>> {
-    let mut hours = Vec::new(heap);
-    for hour in 0..24 * DAYS {
-        let place = hour % 24;
-        let price = if place >= 8 && place < 20 {
-            6_000
-        } else {
-            2_500
-        };
-        hours.push(Some(price))?;
-    }
-    Ok(hours)
+    let hours = (0..24 * DAYS).map(|hour| {
+        let by_day = (8..20).contains(&(hour % 24));
+        Some(if by_day { 6_000 } else { 2_500 })
+    });
+    Ok(hours.collect(heap)?)
 }

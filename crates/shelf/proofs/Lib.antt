@@ -1,4 +1,3 @@
-pub mod Conds
 pub mod DayRowFacts
 pub mod DaySums
 pub mod Keeping

@@ -7,7 +7,7 @@
 use Rattle.std.specs.Prelude.{ℕ, zero, suc, ◌+◌, ◌-◌, ◌*◌, cond, ℤ, pos, Some, None, Err, Option, Result, nat_le}
 use Rattle.std.specs.Option.{option_map, ok_or}
 use Rattle.std.specs.Result.{result_map_both as mapped_result}
-use Rattle.units.specs.declared.energy.grains.Grains.{Grains}
+use Rattle.units.specs.declared.quantity.Quantity.{Quantity}
 use Rattle.units.specs.declared.refusal.Refusal.{Refusal}
 use Rattle.units.specs.declared.refusal.Refusal.TheVariants.{NoSuchDate, OutOfRange, DayUnknown}
 use Rattle.shelf.specs.Meaning.{Meaning, day_sum}
@@ -30,5 +30,5 @@ stretch_target m p forecast from to =
     (cond (nat_le forecast 200000) (ok_or (option_map pos (sum_over (balanced m p forecast) from (to + 1 - from))) DayUnknown) (Err OutOfRange))
     (Err NoSuchDate)
 
-abbrev pub counted : Result Grains Refusal → Result ℤ Refusal
+abbrev pub counted : {U : Type 0} {of : _} → Result (Quantity U of) Refusal → Result ℤ Refusal
 counted r = mapped_result (λ grains. grains.count) (λ e. e) r

@@ -18,10 +18,8 @@ impl DayRow {
     pub fn new(values: [u16; 96]) -> Result<DayRow, Refusal>
         ensures { Makes (Capped values) (λ row. row.values ≡ values) result }
     {
-        for value in &values {
-            if *value > LARGEST_VALUE {
-                return Err(Refusal::RuleBroken);
-            }
+        if values.iter().any(|value| *value > LARGEST_VALUE) {
+            return Err(Refusal::RuleBroken);
         }
         Ok(DayRow { values })
     }
@@ -36,20 +34,12 @@ impl DayRow {
     pub fn at(&self, quarter: u32) -> Option<u16>
         ensures { result ≡ at_quarter self.now.values quarter }
     {
-        if quarter < 96 {
-            Some(self.values[quarter as usize])
-        } else {
-            None
-        }
+        self.values.get(quarter as usize).copied()
     }
 
     pub fn sum(&self) -> u32
         ensures { result ≡ day_sum self.now.values }
     {
-        let mut sum: u32 = 0;
-        for value in &self.values {
-            sum += *value as u32;
-        }
-        sum
+        self.values.iter().map(|value| u32::from(*value)).sum()
     }
 }

@@ -8,6 +8,7 @@ use crate::day_row::DayRow;
 use crate::group::Group;
 
 // Up to 64 load profiles, numbered from 0, on the days 0 to 14,609.
+// A question takes profile and day apart, since nothing keeps questions, as lists of tells are kept.
 pub trait Shelf {
     ghost meaning: { Self → Meaning };
 
@@ -23,19 +24,13 @@ pub trait Shelf {
     fn value(&self, profile: u32, day: u32, quarter: u32) -> Option<u16>
         ensures { result ≡ quarter_of ((meaning self.now).known profile day) quarter }
     {
-        match self.row(profile, day) {
-            Some(row) => row.at(quarter),
-            None => None,
-        }
+        self.row(profile, day)?.at(quarter)
     }
 
     fn day_sum(&self, profile: u32, day: u32) -> Option<u32>
         ensures { result ≡ option_map day_sum ((meaning self.now).known profile day) }
     {
-        match self.row(profile, day) {
-            Some(row) => Some(row.sum()),
-            None => None,
-        }
+        self.row(profile, day).map(|row| row.sum())
     }
 
     ghost lawful: { (s : Self) → Lawful (meaning s) };

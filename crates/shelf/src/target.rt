@@ -25,11 +25,10 @@ pub fn stretch_target<S: Shelf>(
     if forecast > LARGEST_FORECAST {
         return Err(Refusal::OutOfRange);
     }
+    // a `for`, since that each sum fits is shown step by step
     let mut target = Grains::zero();
-    for day in from..to + 1 {
-        let Some(day_sum) = shelf.day_sum(profile, day) else {
-            return Err(Refusal::DayUnknown);
-        };
+    for day in from..=to {
+        let day_sum = shelf.day_sum(profile, day).ok_or(Refusal::DayUnknown)?;
         target = target + Grains::on_day(forecast, day_sum);
     }
     Ok(target)

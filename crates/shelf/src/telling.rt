@@ -6,20 +6,20 @@ ghost use Rattle.shelf.specs.Tells.{tells_after, Keeps, KeepsTargets};
 use crate::shelves::Shelf;
 use units::Refusal;
 
-// A shelf that can be told a number for a profile's day, which makes the day known.
-pub trait TellShelf: Shelf {
-    fn tell(&mut self, profile: u32, day: u32, number: i32) -> Result<(), Refusal>
-        ensures answer { result ≡ tell_answer (Self.Shelf.meaning self.old) profile day number }
-        ensures after { Self.Shelf.meaning self.new ≡ tell_after (Self.Shelf.meaning self.old) profile day number }
-        ensures kept { is_ok result ≡ false → self.new ≡ self.old };
-}
-
 // A number for a profile's day.
 #[derive(Clone, Copy)]
 pub struct Tell {
     pub profile: u32,
     pub day: u32,
     pub number: i32,
+}
+
+// A shelf that can be told a number for a profile's day, which makes the day known.
+pub trait TellShelf: Shelf {
+    fn tell(&mut self, tell: Tell) -> Result<(), Refusal>
+        ensures answer { result ≡ tell_answer (Self.Shelf.meaning self.old) tell.profile tell.day tell.number }
+        ensures after { Self.Shelf.meaning self.new ≡ tell_after (Self.Shelf.meaning self.old) tell.profile tell.day tell.number }
+        ensures kept { is_ok result ≡ false → self.new ≡ self.old };
 }
 
 // Tells one after the other, past those that are refused.
@@ -29,6 +29,6 @@ pub fn tell_all<S: TellShelf>(shelf: &mut S, tells: &[Tell])
     ensures targets { KeepsTargets (S.Shelf.meaning shelf.old) (S.Shelf.meaning shelf.new) }
 {
     for tell in tells {
-        let _ = shelf.tell(tell.profile, tell.day, tell.number);
+        let _ = shelf.tell(*tell);
     }
 }

@@ -5,11 +5,49 @@ mod stack;
 
 use shelf::{Shelf, Tell, TellShelf, stretch_target, tell_all};
 use stack::{FIRST, Stack, stacked};
-use units::MakeError;
 use weather::temperature_row;
 
 // Days of the year 2024, of each season and kind.
 const DAYS: [u32; 7] = [8_825, 8_866, 8_895, 8_948, 9_121, 9_124, 9_125];
+
+// The tells whose answers are printed.
+const PRINTED_TELLS: [Tell; 7] = [
+    Tell {
+        profile: 2,
+        day: FIRST,
+        number: -5,
+    },
+    Tell {
+        profile: 2,
+        day: FIRST,
+        number: 180,
+    },
+    Tell {
+        profile: 2,
+        day: FIRST + 1,
+        number: 501,
+    },
+    Tell {
+        profile: 2,
+        day: FIRST + 30,
+        number: 0,
+    },
+    Tell {
+        profile: 4,
+        day: FIRST,
+        number: 0,
+    },
+    Tell {
+        profile: 2,
+        day: 14_610,
+        number: 0,
+    },
+    Tell {
+        profile: 0,
+        day: FIRST,
+        number: 0,
+    },
+];
 
 const TELLS: [Tell; 4] = [
     Tell {
@@ -32,6 +70,16 @@ const TELLS: [Tell; 4] = [
         day: FIRST,
         number: 499,
     },
+];
+
+// Profile, forecast and last day of each target that is printed.
+const TARGETS: [(u32, u32, u32); 6] = [
+    (0, 3_500, FIRST + 10),
+    (2, 200_000, FIRST + 2),
+    (2, 200_001, FIRST + 2),
+    (2, 200_000, FIRST + 3),
+    (2, 200_000, FIRST - 1),
+    (2, 200_001, 14_610),
 ];
 
 fn print_rows(rt: HostRuntime) -> anyhow::Result<()> {
@@ -67,80 +115,18 @@ fn print_tell(rt: HostRuntime, shelf: &mut Stack, tell: Tell) -> anyhow::Result<
         day,
         number,
     } = tell;
-    match shelf.tell(profile, day, number) {
+    match shelf.tell(tell) {
         Ok(()) => println!(rt; "tell {profile} {day} {number}: known now")?,
-        Err(refusal) => {
-            let rule = refusal.number();
-            println!(rt; "tell {profile} {day} {number}: refusal {rule}")?;
-        }
+        Err(refusal) => println!(rt; "tell {profile} {day} {number}: {refusal}")?,
     }
     Ok(())
 }
 
 fn print_tells(rt: HostRuntime, shelf: &mut Stack) -> anyhow::Result<()> {
-    print_tell(
-        rt,
-        shelf,
-        Tell {
-            profile: 2,
-            day: FIRST,
-            number: -5,
-        },
-    )?;
-    print_tell(
-        rt,
-        shelf,
-        Tell {
-            profile: 2,
-            day: FIRST,
-            number: 180,
-        },
-    )?;
-    print_tell(
-        rt,
-        shelf,
-        Tell {
-            profile: 2,
-            day: FIRST + 1,
-            number: 501,
-        },
-    )?;
-    print_tell(
-        rt,
-        shelf,
-        Tell {
-            profile: 2,
-            day: FIRST + 30,
-            number: 0,
-        },
-    )?;
-    print_tell(
-        rt,
-        shelf,
-        Tell {
-            profile: 4,
-            day: FIRST,
-            number: 0,
-        },
-    )?;
-    print_tell(
-        rt,
-        shelf,
-        Tell {
-            profile: 2,
-            day: 14_610,
-            number: 0,
-        },
-    )?;
-    print_tell(
-        rt,
-        shelf,
-        Tell {
-            profile: 0,
-            day: FIRST,
-            number: 0,
-        },
-    )
+    for tell in PRINTED_TELLS {
+        print_tell(rt, shelf, tell)?;
+    }
+    Ok(())
 }
 
 fn print_target(
@@ -155,21 +141,16 @@ fn print_target(
             let count = grains.count();
             println!(rt; "target {profile} {forecast} to {to}: {count}")?;
         }
-        Err(refusal) => {
-            let rule = refusal.number();
-            println!(rt; "target {profile} {forecast} to {to}: refusal {rule}")?;
-        }
+        Err(refusal) => println!(rt; "target {profile} {forecast} to {to}: {refusal}")?,
     }
     Ok(())
 }
 
 fn print_targets(rt: HostRuntime, shelf: &Stack) -> anyhow::Result<()> {
-    print_target(rt, shelf, 0, 3_500, FIRST + 10)?;
-    print_target(rt, shelf, 2, 200_000, FIRST + 2)?;
-    print_target(rt, shelf, 2, 200_001, FIRST + 2)?;
-    print_target(rt, shelf, 2, 200_000, FIRST + 3)?;
-    print_target(rt, shelf, 2, 200_000, FIRST - 1)?;
-    print_target(rt, shelf, 2, 200_001, 14_610)
+    for (profile, forecast, to) in TARGETS {
+        print_target(rt, shelf, profile, forecast, to)?;
+    }
+    Ok(())
 }
 
 fn tour(rt: HostRuntime, mut shelf: Stack) -> anyhow::Result<()> {
@@ -184,13 +165,8 @@ fn tour(rt: HostRuntime, mut shelf: Stack) -> anyhow::Result<()> {
 fn main(rt: HostRuntime) -> anyhow::Result<()> {
     match stacked(rt.alloc()) {
         Ok(shelf) => tour(rt, shelf),
-        Err(MakeError::Refused(refusal)) => {
-            let rule = refusal.number();
-            println!(rt; "not made: refusal {rule}")?;
-            Ok(())
-        }
-        Err(MakeError::NoMemory) => {
-            println!(rt; "not made: no memory")?;
+        Err(error) => {
+            println!(rt; "not made: {error}")?;
             Ok(())
         }
     }

@@ -1,9 +1,10 @@
 // A stack of shelves: two typed profiles and two of the weather, the third of the four scaled day by day.
-use calendar::{ExtraDays, Federal};
+use calendar::{ExtraDays, Federal, Season};
 use kinds::{SeasonRows, Typed, TypedProfile};
 use layers::{DayFactor, Pair};
 use shelf::{DayRow, Group};
 use std::alloc::Global;
+use std::array;
 use units::{MakeError, Refusal};
 use weather::Weather;
 
@@ -17,15 +18,12 @@ const NEW_YEARS_EVE: u32 = 9_131;
 pub type Stack = DayFactor<Pair<Typed<ExtraDays<Federal>>, Weather>>;
 
 fn made_up_row(seed: u32) -> Result<DayRow, Refusal> {
-    let mut values = [0; 96];
-    for quarter in 0..96 {
-        values[quarter] = ((seed % 9_000 + 157 * quarter as u32) % 9_000) as u16;
-    }
-    DayRow::new(values)
+    let first = seed % 9_000;
+    DayRow::new(array::from_fn(|quarter| { ((first + 157 * quarter as u32) % 9_000) as u16 }))
 }
 
-fn season_rows(profile: u8, season: u8) -> Result<SeasonRows, Refusal> {
-    let seed = 900 * u32::from(profile) + 300 * u32::from(season);
+fn season_rows(profile: u8, season: Season) -> Result<SeasonRows, Refusal> {
+    let seed = 900 * u32::from(profile) + 300 * season as u32;
     Ok(SeasonRows {
         workday: made_up_row(seed)?,
         saturday: made_up_row(seed + 100)?,
@@ -36,9 +34,9 @@ fn season_rows(profile: u8, season: u8) -> Result<SeasonRows, Refusal> {
 fn typed_profile(profile: u8, group: Group) -> Result<TypedProfile, Refusal> {
     Ok(TypedProfile {
         group,
-        winter: season_rows(profile, 0)?,
-        summer: season_rows(profile, 1)?,
-        transition: season_rows(profile, 2)?,
+        winter: season_rows(profile, Season::Winter)?,
+        summer: season_rows(profile, Season::Summer)?,
+        transition: season_rows(profile, Season::Transition)?,
     })
 }
 
@@ -50,20 +48,15 @@ fn typed(heap: Global) -> Result<Typed<ExtraDays<Federal>>, MakeError> {
 }
 
 fn weather(heap: Global) -> Result<Weather, MakeError> {
-    let mut rows = Vec::new(heap);
-    for k in 0..70 {
-        rows.push(made_up_row(100 * k + 50)?)?;
-    }
+    let rows = (0..70)
+        .map(|k: u32| -> Result<DayRow, MakeError> { Ok(made_up_row(100 * k + 50)?) })
+        .try_collect(heap)?;
     let groups = [Group::T, Group::T].to_vec(heap)?;
     Weather::new(heap, groups, rows, FIRST, 30)
 }
 
 fn factors() -> [u16; 366] {
-    let mut factors = [0; 366];
-    for day in 0..366 {
-        factors[day] = (8_000 + 30 * day) as u16;
-    }
-    factors
+    array::from_fn(|day| (8_000 + 30 * day) as u16)
 }
 
 pub(crate) fn stacked(heap: Global) -> Result<Stack, MakeError> {

@@ -14,10 +14,7 @@ const ROUNDED: [(i128, i128, i128); 7] = [
 ];
 
 fn grains(count: i128) -> Result<Grains, Fail> {
-    match Grains::new(count) {
-        Some(made) => Ok(made),
-        None => Err(Fail::new("too many grains")),
-    }
+    Ok(Grains::new(count).ok_or("too many grains")?)
 }
 
 #[test]
@@ -50,10 +47,8 @@ const DIFFERENCES: [(u32, u64, i128, i128); 4] = [
 #[test]
 fn differences(rt: HostRuntime) -> Result<(), Fail> {
     for (target, actual, surplus, shortfall) in DIFFERENCES {
-        let Some(found) = difference(Grains::on_day(target, 40_000_000), Kwh::metered(actual))
-        else {
-            return Err(Fail::new("too large a difference"));
-        };
+        let target = Grains::on_day(target, 40_000_000);
+        let found = difference(target, Kwh::metered(actual)).ok_or("too large")?;
         assert_eq!(rt; found.surplus().rounded().count(), surplus);
         assert_eq!(rt; found.shortfall().rounded().count(), shortfall);
     }
@@ -74,9 +69,7 @@ const AMOUNTS: [(i128, i32, i128); 6] = [
 fn amounts(rt: HostRuntime) -> Result<(), Fail> {
     for (kwh, price, cents) in AMOUNTS {
         let whole = grains(kwh.saturating_mul(40_000_000))?.rounded();
-        let Some(price) = PriceHundredths::new(price) else {
-            return Err(Fail::new("too high a price"));
-        };
+        let price = PriceHundredths::new(price).ok_or("too high a price")?;
         assert_eq!(rt; amount(whole, price).count(), cents);
     }
     Ok(())

@@ -31,3 +31,10 @@ pub struct Account {
     pub left: Grains,
     pub amount: Cents,
 }
+
+// A period that is settled.
+#[derive(Clone, Copy)]
+pub struct Settlement {
+    pub period: Period,
+    pub account: Account,
+}

@@ -1,7 +1,7 @@
 // How figures are shown to a reader.
 use calendar::Date;
 use std::fmt;
-use units::{Grains, PriceHundredths};
+use units::Grains;
 
 // Grains as kilowatt-hours, to the last digit.
 #[derive(Clone, Copy)]
@@ -14,7 +14,7 @@ impl fmt::Display for InKwh {
         let sign = if count < 0 { "-" } else { "" };
         let whole = size / 40_000_000;
         write!(f, "{sign}{whole}")?;
-        // billionths of a kilowatt-hour
+        // billionths of a kilowatt-hour, digit by digit, since a text to trim zeros of would be on the heap
         let mut rest = size % 40_000_000 * 25;
         if rest > 0 {
             write!(f, ".")?;
@@ -28,21 +28,6 @@ impl fmt::Display for InKwh {
             rest = rest % 100_000_000 * 10;
         }
         write!(f, " kWh")
-    }
-}
-
-// A price in cents per kilowatt-hour.
-#[derive(Clone, Copy)]
-pub struct InCents(pub PriceHundredths);
-
-impl fmt::Display for InCents {
-    fn fmt<W: fmt::Write>(&self, f: &mut fmt::Formatter<W>) -> fmt::Result {
-        let count = self.0.count();
-        let size = count.unsigned_abs();
-        let sign = if count < 0 { "-" } else { "" };
-        let whole = size / 100;
-        let hundredths = size % 100;
-        write!(f, "{sign}{whole}.{hundredths:02} cents per kWh")
     }
 }
 

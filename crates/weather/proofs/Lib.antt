@@ -1,1 +1,2 @@
+pub mod UntoldProfiles
 pub mod WeatherTells

@@ -1,6 +1,7 @@
 // Shelves of temperature-dependent load profiles.
 #![tactic(auto)]
 
+mod profile;
 mod temperature;
 mod weather;
 

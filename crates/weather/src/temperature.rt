@@ -6,9 +6,7 @@ ghost use Rattle.weather.specs.Temperatures.{temperature_row};
 pub fn temperature_row(tenths: i32) -> Option<u32>
     ensures { result ≡ temperature_row tenths }
 {
-    if tenths < -500 || tenths > 500 {
-        return None;
-    }
-    let degree = tenths.div_euclid(10).clamp(-17, 17);
-    Some((degree + 17) as u32)
+    (-500..=500)
+        .contains(&tenths)
+        .then(|| (tenths.div_euclid(10).clamp(-17, 17) + 17) as u32)
 }

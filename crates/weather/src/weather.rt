@@ -1,37 +1,25 @@
-// Temperature-dependent profiles, whose days are told one by one.
-ghost use Rattle.std.specs.Prelude.{◌≡◌, ℕ, ◌*◌, ◌<◌, ◌≤◌, length, replicate, IfSome, if◌then◌else◌, Some, None, vec_len, Decides};
-ghost use Rattle.std.specs.Option.{option_map};
-ghost use Rattle.shelf.specs.DayRows.{values_of, rows_of};
+// Shelves of temperature-dependent profiles, whose days are told one by one.
+ghost use Rattle.std.specs.Prelude.{◌≡◌, ◌≤◌, length, vec_len, Decides};
 ghost use Rattle.units.specs.Makings.{MakesIn};
-ghost use Rattle.weather.specs.Weathers.{WeatherRule, Chosen, holds, place, told_row, weather_meaning};
-ghost use Rattle.std.proofs.Common.{arith};
-ghost use Rattle.shelf.proofs.DayRowFacts.{rows_full};
+ghost use Rattle.weather.specs.Weathers.{WeatherRule, Untold, weather_meaning};
 ghost use Rattle.weather.specs.WeatherDays.{weather_lawful};
 
-use crate::temperature::temperature_row;
+use crate::profile::{DEGREES, WeatherProfile};
 use calendar::LAST_DAY;
-use shelf::{DayRow, Group, MOST_PROFILES, Shelf, TellShelf};
+use shelf::{DayRow, Group, MOST_PROFILES, Shelf, Tell, TellShelf};
 use std::alloc::Global;
 use units::{MakeError, Refusal};
 
-// Each profile has a row for each degree from -17 to 17. For each profile and each day of a window, `told` has the row that was told, if any.
+// Up to 64 profiles, numbered from 0.
 #[derive(Drop)]
 pub struct Weather {
-    groups: Vec<Group>,
-    rows: Vec<DayRow>,
-    first: u32,
-    days: u32,
-    told: Vec<Option<u8>>,
-    ghost rule: { WeatherRule (vec_len groups) (vec_len rows) first days },
-    ghost places: { length told.items ≡ length groups.items * days },
-    ghost chosen: { Chosen told.items },
+    profiles: Vec<WeatherProfile>,
+    ghost few: { length profiles.items ≤ 64 },
 }
-
-// A profile's rows, one for each degree from -17 to 17.
-const DEGREES: usize = 35;
 
 const LONGEST_WINDOW: u32 = 1_200;
 
+// The window's first day and its days come apart from a caller, and only the first stays beside what was told.
 fn keeps_rule(profiles: usize, rows: usize, first: u32, days: u32) -> bool
     ensures { Decides result (WeatherRule profiles rows first days) }
 {
@@ -42,6 +30,8 @@ fn keeps_rule(profiles: usize, rows: usize, first: u32, days: u32) -> bool
 }
 
 impl Weather {
+    // For each profile its group and, one profile after the other, its rows; and a window of `days` days, of which none is told yet.
+    // Two lists, since a caller may give any number of either, and a wrong number is refused.
     pub fn new(
         heap: Global,
         groups: Vec<Group>,
@@ -49,102 +39,49 @@ impl Weather {
         first: u32,
         days: u32,
     ) -> Result<Weather, MakeError>
-        ensures { MakesIn (WeatherRule (vec_len groups) (vec_len rows) first days) (λ s. (s.groups ≡ groups) × (s.rows ≡ rows) × (s.first ≡ first) × (s.days ≡ days) × (s.told.items ≡ replicate (vec_len groups * days) None)) result }
+        ensures { MakesIn (WeatherRule (vec_len groups) (vec_len rows) first days)
+            (λ s. Untold groups.items rows.items first days s.profiles.items) result }
     {
         if !keeps_rule(groups.len(), rows.len(), first, days) {
             return Err(MakeError::Refused(Refusal::RuleBroken));
         }
-        let Ok(told) = vec![in heap; None; groups.len() * days as usize] else {
-            return Err(MakeError::NoMemory);
-        };
-        Ok(Weather {
-            groups,
-            rows,
-            first,
-            days,
-            told,
-        })
-    }
-
-    // The place of a profile's day in `told`.
-    fn place(&self, profile: u32, day: u32) -> Option<usize>
-        ensures value { result ≡ (if holds (length self.now.groups.items) self.now.first self.now.days profile day then Some (place self.now.first self.now.days profile day) else None) }
-        ensures bound { IfSome result (λ at. at < vec_len self.now.told) }
-    {
-        if profile as usize >= self.groups.len() || day < self.first {
-            return None;
+        // a `for` with `?`, since a profile may lack memory as well as the list
+        let mut profiles = Vec::with_capacity(heap, groups.len())?;
+        let (per_profile, _) = rows.as_chunks::<DEGREES>();
+        for (group, rows) in groups.iter().zip(per_profile) {
+            profiles.push(WeatherProfile::new(heap, *group, *rows, first, days)?)?;
         }
-        let at = day - self.first;
-        if at < self.days {
-            Some(profile as usize * self.days as usize + at as usize)
-        } else {
-            None
-        }
-    }
-    // The number of the row that was told for a profile's day.
-    fn told_row(&self, profile: u32, day: u32) -> Option<u8>
-        ensures { result ≡ told_row (length self.now.groups.items) self.now.first self.now.days self.now.told.items profile day }
-    {
-        match self.place(profile, day) {
-            Some(at) => self.told[at],
-            None => None,
-        }
-    }
-
-    // The row of a profile's day, where it was told.
-    fn known_row(&self, profile: u32, day: u32) -> Option<&DayRow>
-        ensures { values_of (option_map (λ x. x.now) result) ≡ (weather_meaning self.now.groups.items (rows_of self.now.rows.items) self.now.first self.now.days (self.now.told.items)).known profile day }
-    {
-        match self.told_row(profile, day) {
-            Some(row) => Some(&self.rows[DEGREES * profile as usize + row as usize]),
-            None => None,
-        }
+        Ok(Weather { profiles })
     }
 }
 
 impl Shelf for Weather {
-    ghost meaning = { λ s. weather_meaning s.groups.items (rows_of s.rows.items) s.first s.days s.told.items };
+    ghost meaning = { λ s. weather_meaning s.profiles.items };
 
-    ghost lawful = { λ s. weather_lawful s.groups.items (rows_of s.rows.items) s.first s.days s.told.items (λ k h. rows_full s.rows.items k (omega (arith, s.rule.1))) s.rule.3 (omega (arith, s.rule.0)) s.chosen };
+    ghost lawful = { λ s. weather_lawful s.profiles.items s.few };
 
     fn count(&self) -> u32 {
-        self.groups.len() as u32
+        self.profiles.len() as u32
     }
 
     fn group(&self, profile: u32) -> Option<Group> {
-        if (profile as usize) < self.groups.len() {
-            Some(self.groups[profile as usize])
-        } else {
-            None
-        }
+        self.profiles.get(profile as usize).map(|found| found.group)
     }
 
     fn row(&self, profile: u32, day: u32) -> Option<DayRow> {
-        match self.known_row(profile, day) {
-            Some(row) => Some(*row),
-            None => None,
-        }
+        self.profiles.get(profile as usize)?.row(day)
     }
 }
 
 impl TellShelf for Weather {
-    fn tell(&mut self, profile: u32, day: u32, number: i32) -> Result<(), Refusal> {
-        if profile as usize >= self.groups.len() {
-            return Err(Refusal::NotFound);
-        }
-        if day > LAST_DAY {
+    fn tell(&mut self, tell: Tell) -> Result<(), Refusal> {
+        let profile = self
+            .profiles
+            .get_mut(tell.profile as usize)
+            .ok_or(Refusal::NotFound)?;
+        if tell.day > LAST_DAY {
             return Err(Refusal::NoSuchDate);
         }
-        let Some(at) = self.place(profile, day) else {
-            return Err(Refusal::NumberNotTaken);
-        };
-        if let Some(_) = self.told[at] {
-            return Err(Refusal::AlreadyKnown);
-        }
-        let Some(row) = temperature_row(number) else {
-            return Err(Refusal::NumberNotTaken);
-        };
-        self.told[at] = Some(row as u8);
-        Ok(())
+        profile.tell(tell.day, tell.number)
     }
 }

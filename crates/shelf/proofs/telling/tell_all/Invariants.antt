@@ -1,6 +1,6 @@
-use Rattle.std.proofs.Common.{◌≡◌, ◌≤◌, length, take}
+use Rattle.std.proofs.Common.{◌≡◌, take}
 use Rattle.shelf.specs.Tells.{tells_after}
 use Rattle.shelf.proofs.telling.tell_all.Given as goal
 
 abbrev pub invariant-loop-tell : goal.invariant-loop-tell
-invariant-loop-tell g l = (g.S.Shelf.meaning l.shelf ≡ tells_after (g.S.Shelf.meaning l.initial.shelf) (take l.tell-index l.tells)) × (l.tell-index ≤ length l.tells)
+invariant-loop-tell g l = g.S.Shelf.meaning l.shelf ≡ tells_after (g.S.Shelf.meaning l.initial.shelf) (take l.tell-index l.tells)

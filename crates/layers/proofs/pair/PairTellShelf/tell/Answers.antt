@@ -1,34 +1,21 @@
-use Rattle.std.proofs.Common.{◌-◌, ◌<◌, ap, ◌∙◌, arith, w32}
+use Rattle.std.proofs.Common.{◌≡◌, ℕ, ℤ, Some, sym, ap, ◌∙◌, arith, w32, SFits, rules}
+use Rattle.std.proofs.lemmas.Bool.Decides.{nat_tests}
 use Rattle.std.proofs.lemmas.Int.{to_z-of_z}
-use Rattle.shelf.specs.Meaning.{tell_answer, tell_after}
-use Rattle.layers.specs.Pairs.{pair_meaning}
-use Rattle.layers.specs.Joined.{answer_first, after_first, answer_second_at, after_second_at}
+use Rattle.shelf.specs.Meaning.{Meaning, tell_after}
+use Rattle.layers.specs.declared.pair.Half.TheVariants.{First, Second}
+use Rattle.layers.specs.Pairs.{joined, pair_meaning}
 use Rattle.layers.proofs.pair.PairTellShelf.tell.Goals as goal
 
-pub returns-then-profile-n : goal.returns-then-profile-n
-returns-then-profile-n g c =
-    let s = c.args.self.now in
-    let a = g.A.Shelf.meaning s.first in
-    let b = g.B.Shelf.meaning s.second in
-    let few = (g.met.A.Shelf.lawful s.first).few in
-    let h : c.args.profile < a.count = omega (arith, c.count-n.ensures, c.if-profile-n.true) in
-    let passed = to_z-of_z w32 c.args.number c.ranges.number in
-    record {
-      answer = c.tell.ensures.answer ∙ ap (tell_answer a c.args.profile c.args.day) passed ∙ answer_first a b c.args.profile c.args.day c.args.number few h;
-      after = ap (λ m. pair_meaning m b) (c.tell.ensures.after ∙ ap (tell_after a c.args.profile c.args.day) passed) ∙ after_first a b c.args.profile c.args.day c.args.number few h;
-      kept = λ refused. ap (λ x. record { first = x; second = s.second }) (c.tell.ensures.kept refused);
-    }
+-- a tell of the second shelf is a tell of the pair
+after_second : (a b : Meaning) (p own d : ℕ) (n : ℤ) → Some (Second own) ≡ joined a.count (λ q. Some (First q)) (λ q. Some (Second q)) p → pair_meaning a (tell_after b own d n) ≡ tell_after (pair_meaning a b) p d n
+after_second a b p own d n at = grind (arith, nat_tests)
 
-pub returns-then-profile-lt-MOST_PROFILES : goal.returns-then-profile-lt-MOST_PROFILES
-returns-then-profile-lt-MOST_PROFILES g c =
-    let s = c.args.self.now in
-    let a = g.A.Shelf.meaning s.first in
-    let b = g.B.Shelf.meaning s.second in
-    let told = c.tell-then-profile-lt-MOST_PROFILES.ensures in
-    let passed = to_z-of_z w32 c.args.number c.ranges.number in
-    let q = c.args.profile - c.count-n.result in
-    record {
-      answer = told.answer ∙ ap (tell_answer b q c.args.day) passed ∙ answer_second_at a b c.args.profile c.args.day c.args.number _ c.count-n.ensures c.if-profile-n.false c.if-profile-lt-MOST_PROFILES.true;
-      after = ap (pair_meaning a) (told.after ∙ ap (tell_after b q c.args.day) passed) ∙ after_second_at a b c.args.profile c.args.day c.args.number _ c.count-n.ensures c.if-profile-n.false c.if-profile-lt-MOST_PROFILES.true;
-      kept = λ refused. ap (λ x. record { first = s.first; second = x }) (told.kept refused);
-    }
+pub returns-in-Second-clause-after : goal.returns-in-Second-clause-after
+returns-in-Second-clause-after g c =
+    let a = g.A.Shelf.meaning c.args.self.now.first in
+    let b = g.B.Shelf.meaning c.args.self.now.second in
+    let t = c.args.tell in
+    let at = ap Some (sym c.in-Second.is) ∙ sym c.in_ok-profile.ensures.ok_part ∙ c.half.ensures in
+    let fits : SFits w32 t.number = search rules in
+    ap (pair_meaning a) (c.tell-in-Second.ensures.after ∙ ap (tell_after b c.in-Second.profile t.day) (to_z-of_z w32 t.number fits))
+    ∙ after_second a b t.profile c.in-Second.profile t.day t.number at
