@@ -51,9 +51,15 @@ module _ (part : ℕ → Option ℕ) (from : ℕ) where
 row_sum_bound : (values : List ℕ) → Row values → day_sum values ≤ 959904
 row_sum_bound values row = omega (arith, sum_by-le (λ x. x) 9999 values (All-from_get_or (λ x. x ≤ 9999) values 0 (λ i h. row.capped i)), row.full)
 
-module _ (m : Meaning) (p forecast from : ℕ) where
+pub grains_added : (a b : ℤ) (x y : ℕ) → a ≡ pos x → b ≡ pos y → a +ℤ b ≡ pos (x + y)
+grains_added a b x y p q = cc
+
+pub sum_held : (a b : ℤ) (x y : ℕ) → a ≡ pos x → b ≡ pos y → x + y ≤ 10 ^ 30 → nat_abs (a +ℤ b) ≤ 10 ^ 30
+sum_held a b x y p q h = rw (grains_added a b x y p q) h
+
+module _ (m : Meaning) (p forecast : ℕ) where
   -- what a day balances, by its day sum
-  balanced_from : (d : ℕ) (sum : Option ℕ) → sum ≡ option_map day_sum (m.known p d) → balanced m p forecast d ≡ option_map (λ s. forecast * s) sum
+  pub balanced_from : (d : ℕ) (sum : Option ℕ) → sum ≡ option_map day_sum (m.known p d) → balanced m p forecast d ≡ option_map (λ s. forecast * s) sum
   balanced_from d sum e = parts (m.known p d) ∙ ap (option_map (λ s. forecast * s)) (sym e)
     where
       parts : (known : Option (List ℕ)) → option_map (λ values. forecast * day_sum values) known ≡ option_map (λ s. forecast * s) (option_map day_sum known)
@@ -61,25 +67,29 @@ module _ (m : Meaning) (p forecast from : ℕ) where
       parts (Some values) = refl
 
   -- a day balances at most 200,000 times 96 times 9,999
-  balanced_bound : Lawful m → forecast ≤ 200000 → (d x : ℕ) → balanced m p forecast d ≡ Some x → x ≤ 191980800000
+  pub balanced_bound : Lawful m → forecast ≤ 200000 → (d x : ℕ) → balanced m p forecast d ≡ Some x → x ≤ 191980800000
   balanced_bound law allowed d x = bound (m.known p d) (law.known_fits p d)
     where
       bound : (known : Option (List ℕ)) → Fits m p d known → option_map (λ values. forecast * day_sum values) known ≡ Some x → x ≤ 191980800000
       bound None fits e = absurd (none-some x e)
       bound (Some values) fits e = let is : forecast * day_sum values ≡ x = cc in omega (arith, mul-le-mul allowed (row_sum_bound values fits.2), is)
 
+  pub part_bound : (d s : ℕ) → Lawful m → forecast ≤ 200000 → Some s ≡ option_map day_sum (m.known p d) → forecast * s ≤ 191980800000
+  part_bound d s law allowed known = balanced_bound law allowed d (forecast * s) (balanced_from d (Some s) known)
+
+module _ (m : Meaning) (p forecast from : ℕ) where
   module _ (day s : ℕ) (t v : ℤ) (so_far : Some t ≡ option_map pos (sum_over (balanced m p forecast) from (day - from))) (known : Some s ≡ option_map day_sum (m.known p day)) (is : v ≡ pos (forecast * s)) where
     -- the grains with one day more
     pub grains_more : (u : ℤ) → from ≤ day → u ≡ t +ℤ v → Some u ≡ option_map pos (sum_over (balanced m p forecast) from (day + 1 - from))
     grains_more u h sum =
         ap Some (sum ∙ ap (λ z. t +ℤ z) is)
         ∙ added (sum_over (balanced m p forecast) from (day - from)) so_far
-        ∙ ap (λ o. option_map pos (add_known (sum_over (balanced m p forecast) from (day - from)) o)) (sym (balanced_from day (Some s) known))
+        ∙ ap (λ o. option_map pos (add_known (sum_over (balanced m p forecast) from (day - from)) o)) (sym (balanced_from m p forecast day (Some s) known))
         ∙ ap (option_map pos) (sym (sum_over_more (balanced m p forecast) from day h))
       where
         added : (o : Option ℕ) → Some t ≡ option_map pos o → Some (t +ℤ pos (forecast * s)) ≡ option_map pos (add_known o (Some (forecast * s)))
         added None e = cc
-        added (Some y) e = let same : t ≡ pos y = cc in ap (λ z. Some (z +ℤ pos (forecast * s))) same
+        added (Some y) e = let same : t ≡ pos y = cc in ap Some (grains_added t (pos (forecast * s)) y (forecast * s) same refl)
 
     pub grains_held : Lawful m → forecast ≤ 200000 → day ≤ 14609 → nat_abs (t +ℤ v) ≤ 10 ^ 30
     grains_held law allowed days = held (sum_over (balanced m p forecast) from (day - from)) refl so_far
@@ -87,18 +97,19 @@ module _ (m : Meaning) (p forecast from : ℕ) where
         held : (o : Option ℕ) → sum_over (balanced m p forecast) from (day - from) ≡ o → Some t ≡ option_map pos o → nat_abs (t +ℤ v) ≤ 10 ^ 30
         held None at e = absurd (none-some t (sym e))
         held (Some y) at e =
-            let each = balanced_bound law allowed in
+            let each = balanced_bound m p forecast law allowed in
             let same : t ≡ pos y = cc in
-            let small = each day (forecast * s) (balanced_from day (Some s) known) in
-            rw (same, is) (omega (arith, small, sum_over_le (balanced m p forecast) from 191980800000 each (day - from) y at))
+            let small = part_bound m p forecast day s law allowed known in
+            sum_held t v y (forecast * s) same is (omega (arith, small, sum_over_le (balanced m p forecast) from 191980800000 each (day - from) y at))
 
   module _ (to : ℕ) (days : to ≤ 14609) (allowed : forecast ≤ 200000) where
-    stretch_allowed : stretch_target m p forecast from to ≡ ok_or (option_map pos (sum_over (balanced m p forecast) from (to + 1 - from))) DayUnknown
-    stretch_allowed = rw (le-leb to 14609 days, le-leb forecast 200000 allowed)
+    -- the answer, by the sum
+    pub stretch_answer : (sum : Option ℕ) → sum ≡ sum_over (balanced m p forecast) from (to + 1 - from) → ok_or (option_map pos sum) DayUnknown ≡ stretch_target m p forecast from to
+    stretch_answer sum is = rw (le-leb to 14609 days, le-leb forecast 200000 allowed) (ap (λ o. ok_or (option_map pos o) DayUnknown) is)
 
     -- the answer where each day is known, and where one is not
     pub stretch_known : (n : ℕ) (t : ℤ) → n ≡ to + 1 - from → Some t ≡ option_map pos (sum_over (balanced m p forecast) from n) → Ok t ≡ stretch_target m p forecast from to
-    stretch_known n t all sum = ap (λ o. ok_or o DayUnknown) (sum ∙ ap (λ k. option_map pos (sum_over (balanced m p forecast) from k)) all) ∙ sym stretch_allowed
+    stretch_known n t all sum = ap (λ o. ok_or o DayUnknown) (sum ∙ ap (λ k. option_map pos (sum_over (balanced m p forecast) from k)) all) ∙ stretch_answer (sum_over (balanced m p forecast) from (to + 1 - from)) refl
 
     pub stretch_unknown : (day : ℕ) → from ≤ day → day ≤ to → None ≡ option_map day_sum (m.known p day) → stretch_target m p forecast from to ≡ Err DayUnknown
-    stretch_unknown day h short unknown = stretch_allowed ∙ ap (λ o. ok_or (option_map pos o) DayUnknown) (sum_over_unknown (balanced m p forecast) from day to h short (balanced_from day None unknown))
+    stretch_unknown day h short unknown = sym (stretch_answer None (sym (sum_over_unknown (balanced m p forecast) from day to h short (balanced_from m p forecast day None unknown))))

@@ -1,3 +1,4 @@
+pub mod Conds
 pub mod DayRowFacts
 pub mod DaySums
 pub mod Keeping

@@ -18,7 +18,9 @@ impl DayRow {
     pub fn new(values: [u16; 96]) -> Result<DayRow, Refusal>
         ensures { Makes (Capped values) (λ row. row.values ≡ values) result }
     {
-        if values.iter().any(|value| *value > LARGEST_VALUE) {
+        // a `fold`, since a test that stops early takes the values one by one
+        let largest = values.iter().fold(0, |largest, value| largest.max(*value));
+        if largest > LARGEST_VALUE {
             return Err(Refusal::RuleBroken);
         }
         Ok(DayRow { values })
