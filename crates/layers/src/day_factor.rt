@@ -7,6 +7,7 @@ ghost use Rattle.layers.specs.Scaling.{factor_lawful};
 
 use calendar::day_of_year;
 use shelf::{DayRow, Group, LARGEST_VALUE, Shelf, Tell, TellShelf};
+use std::array;
 use units::Refusal;
 
 // The factors are in ten-thousandths, 1 January's first.
@@ -29,7 +30,8 @@ fn scaled(value: u16, factor: u16) -> u16
 fn scaled_row(row: DayRow, factor: u16) -> [u16; 96]
     ensures { result ≡ scaled_row factor row.values }
 {
-    row.values().map(|value| scaled(value, factor))
+    let values = row.values();
+    array::from_fn(|quarter| scaled(values[quarter], factor))
 }
 
 impl<A: Shelf + Drop> DayFactor<A> {
@@ -69,10 +71,10 @@ impl<A: Shelf> Shelf for DayFactor<A> {
     }
 
     fn row(&self, profile: u32, day: u32) -> Option<DayRow> {
-        let row = self.below.row(profile, day)?;
         if profile != self.profile {
-            return Some(row);
+            return self.below.row(profile, day);
         }
+        let row = self.below.row(profile, day)?;
         let factor = self.factor_on(day)?;
         DayRow::new(scaled_row(row, factor)).ok()
     }

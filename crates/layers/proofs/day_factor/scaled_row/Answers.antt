@@ -1,26 +1,32 @@
 use Rattle.std.proofs.Common.{◌≡◌, ℕ, zero, suc, ◌+◌, ◌<◌, ◌≤◌, List, length, map, get_or, sym, refl, ap, ◌∙◌, subst, ⊎_elim, arith, rules}
 use Rattle.std.proofs.lemmas.Bool.{cases_eq}
 use Rattle.std.proofs.lemmas.List.{length-map, get_or-map, same_lists}
-use Rattle.std.specs.Array.{MapsFrom, IsMapOf}
+use Rattle.std.specs.Array.{IsFromFnResultFrom}
 use denote.Param.Members.{Mut, Called}
 use Rattle.layers.specs.DayFactors.{scaled, scaled_row}
 use Rattle.layers.proofs.day_factor.scaled_row.Goals as goal
 
--- what an array's `map` gives, by a closure that no call changes
-module _ {F A B : Type 0} (g : Mut F (A × Unit {0}) B) (v : A → B) (f : F) (call : (x : A) (y : B) (f' : F) → Called g f (x, tt) y f' → (y ≡ v x) × (f' ≡ f)) (xs : List A) (ys : List B) where
-  each_mapped : (p : F) (i n : ℕ) → p ≡ f → MapsFrom g p xs ys i n → (k : ℕ) (d : A) (e : B) → i ≤ k → k < i + n → get_or ys k e ≡ v (get_or xs k d)
-  each_mapped p i zero same maps k d e low high = absurd (omega arith)
-  each_mapped p i (suc n) same maps k d e low high =
-      let C : F → Type 0 = λ w. Called g w (maps.1, tt) maps.2 maps.0 in
-      let called = call maps.1 maps.2 maps.0 (subst C same maps.5) in
+-- what `from_fn` gives at each place, by a closure that no call changes
+module _ {F B : Type 0} (g : Mut F (ℕ × Unit {0}) B) (v : ℕ → B) (f : F) (call : (i : ℕ) (y : B) (q : F) → Called g f (i, tt) y q → (y ≡ v i) × (q ≡ f)) (ys : List B) where
+  each_made : (p : F) (i n : ℕ) → p ≡ f → IsFromFnResultFrom g p ys i n → (k : ℕ) (e : B) → i ≤ k → k < i + n → get_or ys k e ≡ v k
+  each_made p i zero same made k e low high = absurd (omega arith)
+  each_made p i (suc n) same made k e low high =
+      let C : F → Type 0 = λ w. Called g w (i, tt) made.1 made.0 in
+      let called = call i made.1 made.0 (subst C same made.3) in
       ⊎_elim
-      (λ here. ap (λ j. get_or ys j e) here ∙ maps.4.1 e ∙ called.0 ∙ ap v (sym (ap (λ j. get_or xs j d) here ∙ maps.3.1 d)))
-      (λ other. each_mapped maps.0 (i + 1) n called.1 maps.6 k d e (omega arith) (omega arith))
+      (λ here. ap (λ j. get_or ys j e) here ∙ made.2.1 e ∙ called.0 ∙ ap v (sym here))
+      (λ other. each_made made.0 (i + 1) n called.1 made.4 k e (omega arith) (omega arith))
       (cases_eq k i)
 
-  mapped : (n : ℕ) (a : A) → length xs ≡ n → IsMapOf g f xs ys n → ys ≡ map v xs
-  mapped n a full maps = same_lists ys (map v xs) (omega (arith, maps.long, length-map xs v))
-      (λ k d short. let in_xs : k < length xs = omega (arith, maps.long) in each_mapped f 0 n refl maps.each k a d (omega arith) (omega arith) ∙ sym (get_or-map v xs k a d in_xs))
-
 pub returns : goal.returns
-returns c = mapped _ (scaled c.args.factor) _ (λ x y f' k. search rules) c.values.result c.map.result 96 0 (ap length c.values.ensures ∙ c.args.row.full) c.map.ensures.items ∙ ap (scaled_row c.args.factor) c.values.ensures
+returns c =
+    let values = c.values-values.result in
+    let v = scaled c.args.factor in
+    let full : length values ≡ 96 = ap length c.values-values.ensures ∙ c.args.row.full in
+    let made = c.from_fn.ensures.items in
+    same_lists c.from_fn.result (map v values) (omega (arith, made.long, length-map values v))
+    (λ k d short.
+    let below : k < 96 = omega (arith, made.long) in
+    each_made _ (λ i. v (get_or values i 0)) _ (λ i y q h. search rules) c.from_fn.result _ 0 96 refl made.each k d (omega arith) below
+    ∙ sym (get_or-map v values k 0 d (omega arith)))
+    ∙ ap (scaled_row c.args.factor) c.values-values.ensures
