@@ -1,78 +1,32 @@
 -- Laws of the dated look-up. Assumes nothing.
-use Rattle.std.proofs.Common.{◌≡◌, ℕ, ◌≤◌, ◌<◌, ◌+◌, Bool, true, false, cond, ◌&&◌, eqb, leb, ltb, min, List, [], ◌∷◌, map, Some, None, fold}
-use Rattle.std.proofs.Common.{Option, Bor, refl, sym, ap, subst, ◌∙◌, arith}
+use Rattle.std.proofs.Common.{◌≡◌, ℕ, ◌≤◌, ◌<◌, ◌+◌, Bool, true, false, cond, ◌&&◌, eqb, leb, ◌⊎◌, List, [], ◌∷◌, ◌++◌, map, Some, None, fold}
+use Rattle.std.proofs.Common.{Option, Bor, refl, sym, ap, subst, ◌∙◌, inl, inr, ⊎_elim, arith}
 use denote.Param.Members.{Mut}
-use Rattle.std.specs.Option.{option_copied}
-use Rattle.std.specs.Ordering.{nat_cmp, max_by_ordering}
-use Rattle.std.specs.declared.cmp.Ordering.{Ordering}
-use Rattle.std.specs.declared.cmp.Ordering.TheVariants.{Less, Equal, Greater}
-use Rattle.std.specs.List.{filter, FoldsTo, All}
-use Rattle.std.specs.Fn.{CalledAt}
-use Rattle.std.specs.Iterator.{KeyTurn, PicksMaxByKey}
+use Rattle.std.specs.Option.{option_map, option_copied}
+use Rattle.std.specs.List.{All, Contains}
+use Rattle.std.specs.Fn.{Called}
+use Rattle.std.specs.Iterator.{FoldsItems}
+use Rattle.std.proofs.lemmas.Bool.{eqb-true, leb-true}
 use Rattle.std.proofs.lemmas.Bool.Decides.{nat_tests}
+use Rattle.std.proofs.lemmas.Fn.{fold_over}
 use Rattle.std.proofs.lemmas.Iterator.{YieldsList}
-use Rattle.std.proofs.iter.Yields.{gives_Drains}
-use Rattle.std.proofs.lemmas.List.Elements.{All-nil, All-cons}
-use Rattle.dated.specs.Dates.{no_earlier, later, latest, nearer, Same}
+use Rattle.std.proofs.lemmas.List.Sums.{fold_push}
+use Rattle.std.proofs.lemmas.List.Elements.{All-nil, All-cons, Contains-append_right}
+use Rattle.dated.specs.Dates.{no_earlier, later, latest, Latest, nearer, Same}
 
--- a fold that passes over what fails the test is one over what passes
-fold-filter : {A B : Type 0} (h f : B → A → B) (test : A → Bool) → ((b : B) (e : A) → h b e ≡ cond (test e) (f b e) b)
-    → (b : B) (es : List A) → fold h b es ≡ fold f b (filter test es)
-fold-filter h f test is b [] = refl
-fold-filter {A} {B} h f test is b (e ∷ es) =
-    ap (λ w. fold h w es) (is b e)
-    ∙ step (test e) (fold-filter h f test is (f b e) es) (fold-filter h f test is b es)
-  where
-    step : (t : Bool) → fold h (f b e) es ≡ fold f (f b e) (filter test es) → fold h b es ≡ fold f b (filter test es)
-        → fold h (cond t (f b e) b) es ≡ fold f b (cond t (e ∷ filter test es) (filter test es))
-    step true taken passed = taken
-    step false taken passed = passed
-
--- e, where the best so far is not dated after it
-abbrev newer : {X : Type 0} → (X → ℕ) → Option X → X → Option X
-newer date best e = cond (no_earlier date best e) (Some e) best
-
--- `max_by_key`, where the closure gives the date
-module _ {X F : Type 0} (date : X → ℕ) (g : Mut F (Bor (Bor X) × Unit {0}) ℕ) (f : F)
-    (gives : (z : Bor X) (k : ℕ) (q : F) → CalledAt g f z k q → (q ≡ f) × (k ≡ date z.now)) where
-  picks : (o : Ordering) (b z c : Bor X) (i k l : ℕ) → i ≡ date b.now → k ≡ date z.now → nat_cmp i k ≡ o
-      → l ≡ max_by_ordering o i k → c ≡ max_by_ordering o b z → (l ≡ date c.now) × (Some c.now ≡ newer date (Some b.now) z.now)
-  picks Less b z c i k l p q r s t = (s ∙ q ∙ ap (λ y. date y.now) (sym t), grind (arith, nat_tests))
-  picks Equal b z c i k l p q r s t = (s ∙ q ∙ ap (λ y. date y.now) (sym t), grind (arith, nat_tests))
-  picks Greater b z c i k l p q r s t = (s ∙ p ∙ ap (λ y. date y.now) (sym t), grind (arith, nat_tests))
-
-  turns : (zs : List (Bor X)) (p q : (F × ℕ) × Bor X) → p.0.0 ≡ f → p.0.1 ≡ date p.1.now
-      → FoldsTo (KeyTurn max_by_ordering max_by_ordering g nat_cmp) p zs q → Some q.1.now ≡ fold (newer date) (Some p.1.now) (map (λ y. y.now) zs)
-  turns [] p q a b h = ap (λ w. Some w.1.now) (sym h)
-  turns (z ∷ zs) p q a b h =
-      let m = gives z h.1.0 h.0.0.0 (subst (λ w. CalledAt g w z h.1.0 h.0.0.0) a h.1.2) in
-      let n = picks h.1.1 p.1 z h.0.1 p.0.1 h.1.0 h.0.0.1 b m.1 h.1.3 h.1.4 h.1.5 in
-      turns zs h.0 q m.0 n.0 h.2 ∙ ap (λ w. fold (newer date) w (map (λ y. y.now) zs)) n.1
-
-  pub newest_from_yields_List : {S : Type 0} {steps : S → Option (Bor X) → S → Type 0} (s : S) (r : Option (Bor X)) (es : List X)
-      → PicksMaxByKey steps g nat_cmp s f r → YieldsList steps (λ y. y.now) s es → option_copied r ≡ fold (newer date) None es
-  newest_from_yields_List {steps = steps} s None es h y = ap (fold (newer date) None) (gives_Drains steps (λ y. y.now) [] es s y.runs h)
-  newest_from_yields_List {steps = steps} s (Some r) es h y =
-      let m = gives h.0 h.2 h.3 h.6 in
-      turns h.1 ((h.3, h.2), h.0) (h.4, r) m.0 m.1 h.7
-      ∙ ap (fold (newer date) None) (gives_Drains steps (λ y. y.now) (h.0 ∷ h.1) es s y.runs h.5)
+-- ---- the fold that `latest_of` runs over references
+module _ {X F : Type 0} (own date : X → ℕ) (who x : ℕ) (g : Mut F (Option (Bor X) × (Bor X × Unit {0})) (Option (Bor X))) (f : F)
+    (gives : (a : Option (Bor X)) (z : Bor X) (b : Option (Bor X)) (q : F) → Called g f (a, (z, tt)) b q
+    → (option_copied b ≡ later own date who x (option_copied a) z.now) × (q ≡ f)) where
+  pub latest_from_yields_List : {S : Type 0} {steps : S → Option (Bor X) → S → Type 0} (s : S) (r : Option (Bor X)) (es : List X)
+      → FoldsItems steps g s f None r → YieldsList steps (λ y. y.now) s es → option_copied r ≡ latest own date who x es
+  unfolding latest
+  latest_from_yields_List {steps = steps} s r es h y =
+      fold_over steps (λ z. z.now) g (λ ys a. option_copied a ≡ fold (later own date who x) None ys) f
+      (λ ys a z b q k c. let m = gives a z b q c in (m.0 ∙ ap (λ w. later own date who x w z.now) k ∙ sym (fold_push (later own date who x) None ys z.now), m.1))
+      s es None r y.runs refl h
 
 module _ {X : Type 0} (own date : X → ℕ) (who x : ℕ) where
-  abbrev pub fits : X → Bool
-  fits e = eqb (own e) who && leb (date e) x
-
-  later-newer : (best : Option X) (e : X) → later own date who x best e ≡ cond (fits e) (newer date best e) best
-  later-newer best e = both (eqb (own e) who) (leb (date e) x)
-    where
-      both : (p q : Bool) → cond (p && (q && no_earlier date best e)) (Some e) best ≡ cond (p && q) (newer date best e) best
-      both true true = refl
-      both true false = refl
-      both false q = refl
-
-  pub latest_is : (es : List X) → fold (newer date) None (filter fits es) ≡ latest own date who x es
-  unfolding latest
-  latest_is es = sym (fold-filter (later own date who x) (newer date) fits later-newer None es)
-
   -- ---- what the look-up means
   -- no record that fits is dated after the one found
   abbrev rank : Option X → ℕ
@@ -108,13 +62,45 @@ module _ {X : Type 0} (own date : X → ℕ) (who x : ℕ) where
   pub none_later : (es : List X) (r : X) → Some r ≡ latest own date who x es → All (λ e. own e ≡ who → date e ≤ x → date e ≤ date r) es
   none_later es r v = λ k d i o l. let b = bounded es (Some r) v k d i o l in omega arith
 
+  -- what the look-up finds is in the table, the owner's and not after the date
+  found : (best : Option X) (es : List X) (r : X) → Some r ≡ fold (later own date who x) best es → (Some r ≡ best) ⊎ (Contains es r × (own r ≡ who) × (date r ≤ x))
+  found best [] r v = inl v
+  found best (e ∷ es) r v =
+      ⊎_elim (λ k. here (eqb (own e) who) refl (leb (date e) x) refl (no_earlier date best e) k)
+      (λ m. inr (Contains-append_right (e ∷ []) es r m.0, m.1, m.2))
+      (found (later own date who x best e) es r v)
+    where
+      here : (p : Bool) → eqb (own e) who ≡ p → (q : Bool) → leb (date e) x ≡ q → (n : Bool) → Some r ≡ cond (p && (q && n)) (Some e) best
+          → (Some r ≡ best) ⊎ (Contains (e ∷ es) r × (own r ≡ who) × (date r ≤ x))
+      here true a true b true k =
+          let same : r ≡ e = cc in
+          inr ((0, omega arith, sym same), ap own same ∙ eqb-true (own e) who a, subst (λ w. date w ≤ x) (sym same) (leb-true (date e) x b))
+      here true a true b false k = inl k
+      here true a false b n k = inl k
+      here false a q b n k = inl k
+
+  one_found : (es : List X) (r : X) → Some r ≡ latest own date who x es → Contains es r × (own r ≡ who) × (date r ≤ x)
+  unfolding latest
+  one_found es r v = ⊎_elim (λ k. let z : ◌≡◌ {A = ℕ} 0 1 = cc in absurd (omega arith)) (λ m. m) (found None es r v)
+
+  pub latest_means : (es : List X) → Latest own date who x es (latest own date who x es)
+  latest_means es = which (latest own date who x es) refl
+    where
+      which : (o : Option X) → o ≡ latest own date who x es → Latest own date who x es o
+      which None v = none_fits es v
+      which (Some r) v =
+          let m = one_found es r v in
+          record { one = m.0; owned = m.1; not_after = m.2; none_later = none_later es r v }
+
+  -- a later record, or one of another's, does not change the look-up
+  later_not : (best : Option X) (e : X) → (eqb (own e) who ≡ false) ⊎ (x < date e) → later own date who x best e ≡ best
+  later_not best e h = grind (arith, nat_tests)
+
+  pub latest_push : (es : List X) (e : X) → (eqb (own e) who ≡ false) ⊎ (x < date e) → latest own date who x (es ++ (e ∷ [])) ≡ latest own date who x es
+  unfolding latest
+  latest_push es e h = fold_push (later own date who x) None es e ∙ later_not _ e h
+
   -- ---- the next date
-  abbrev pub past : X → Bool
-  past e = eqb (own e) who && ltb x (date e)
-
-  pub nearest_is : (n : ℕ) (es : List X) → fold (λ m e. min m (date e)) n (filter past es) ≡ fold (nearer own date who x) n es
-  nearest_is n es = sym (fold-filter (nearer own date who x) (λ m e. min m (date e)) past (λ m e. refl) n es)
-
   pub nearest_past : (n : ℕ) (es : List X) → x < n → x < fold (nearer own date who x) n es
   nearest_past n [] h = h
   nearest_past n (e ∷ es) h = nearest_past (nearer own date who x n e) es (grind (arith, nat_tests))
@@ -136,3 +122,17 @@ module _ {X : Type 0} (own date : X → ℕ) (who x : ℕ) where
   pub nearest_same : (n : ℕ) (es : List X) → Same own date who es x (fold (nearer own date who x) n es)
   unfolding latest
   nearest_same n es y a b = unchanged y n None es a b
+
+-- of records seen through p
+module _ {X Y : Type 0} (p : X → Y) (own date : Y → ℕ) (who x : ℕ) where
+  later_map : (b : Option X) (e : X) → option_map p (later (λ r. own (p r)) (λ r. date (p r)) who x b e) ≡ later own date who x (option_map p b) (p e)
+  later_map None e = grind (arith, nat_tests)
+  later_map (Some b) e = grind (arith, nat_tests)
+
+  fold_map : (b : Option X) (es : List X) → option_map p (fold (later (λ r. own (p r)) (λ r. date (p r)) who x) b es) ≡ fold (later own date who x) (option_map p b) (map p es)
+  fold_map b [] = refl
+  fold_map b (e ∷ es) = fold_map (later (λ r. own (p r)) (λ r. date (p r)) who x b e) es ∙ ap (λ o. fold (later own date who x) o (map p es)) (later_map b e)
+
+  pub latest_map : (es : List X) → option_map p (latest (λ r. own (p r)) (λ r. date (p r)) who x es) ≡ latest own date who x (map p es)
+  unfolding latest
+  latest_map es = fold_map None es

@@ -27,8 +27,11 @@ pub fn latest_of<T: Dated + Copy>(table: &[T], owner: u32, date: u32) -> Option<
 {
     table
         .iter()
-        .filter(|item| item.owner() == owner && item.date() <= date)
-        .max_by_key(|item| item.date())
+        .fold(None, |found: Option<&T>, item| match found {
+            best if item.owner() != owner || item.date() > date => best,
+            Some(best) if best.date() > item.date() => Some(best),
+            _ => Some(item),
+        })
         .copied()
 }
 
@@ -39,8 +42,11 @@ pub fn next_change<T: Dated>(table: &[T], owner: u32, date: u32) -> u32
     ensures past { date < u32.MAX → date < result }
     ensures same { Same T.Dated.owner_of T.Dated.date_of owner table.now date result }
 {
-    table
-        .iter()
-        .filter(|item| item.owner() == owner && item.date() > date)
-        .fold(u32::MAX, |next, item| next.min(item.date()))
+    table.iter().fold(u32::MAX, |next, item| {
+        if item.owner() == owner && item.date() > date {
+            next.min(item.date())
+        } else {
+            next
+        }
+    })
 }
