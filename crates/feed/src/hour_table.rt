@@ -39,12 +39,11 @@ impl Feed for HourTable {
     ghost held = { λ f. table_held f.first f.hours.items f.held };
 
     fn price(&self, day: u32, hour: u32) -> Option<i32> {
-        // an early return, since the two look-ups after it return early too
-        if hour >= 24 {
+        // an early return, since the look-up after it returns early too
+        if day < self.first || hour >= 24 {
             return None;
         }
-        let days = day.checked_sub(self.first)?;
-        let place = 24 * days as usize + hour as usize;
+        let place = 24 * (day - self.first) as usize + hour as usize;
         *self.hours.get(place)?
     }
 }
