@@ -17,12 +17,12 @@ all_closed zero = true
 all_closed (suc n) = eqb (closed n) (month_start n) && all_closed n
 
 -- the closed form is right, by one test at each month
-closed_at : (k : ℕ) → k < 481 → closed k ≡ month_start k
+pub closed_is : (k : ℕ) → k < 481 → closed k ≡ month_start k
 unfolding all_closed month_start length_of
-closed_at = (Decides-below_and (λ k. eqb (closed k) (month_start k)) (λ k. closed k ≡ month_start k) all_closed (λ k. Decides-eqb (closed k) (month_start k)) refl (λ _. refl) 481).0 refl
+closed_is = (Decides-below_and (λ k. eqb (closed k) (month_start k)) (λ k. closed k ≡ month_start k) all_closed (λ k. Decides-eqb (closed k) (month_start k)) refl (λ _. refl) 481).0 refl
 
-pub closed_is : (k : ℕ) → k < 481 → month_start k ≡ closed k
-closed_is k h = sym (closed_at k h)
+pub start_is : (k : ℕ) → k < 481 → month_start k ≡ closed k
+start_is k h = sym (closed_is k h)
 
 first_zero : month_start 0 ≡ 0
 unfolding month_start
@@ -53,6 +53,19 @@ pub first_le31 : (k : ℕ) → month_start k ≤ 31 * k
 unfolding month_start
 first_le31 zero = omega arith
 first_le31 (suc k) = omega (arith, first_le31 k, length_high k)
+
+all_low : ℕ → Bool
+all_low zero = true
+all_low (suc n) = ltb (2 * month_start n) (61 * n + 2) && all_low n
+
+-- k months have at most (61 k + 1) / 2 days, by one test at each month
+pub first_low : (k : ℕ) → k < 480 → 2 * month_start k < 61 * k + 2
+unfolding all_low month_start length_of
+first_low = (Decides-below_and (λ k. ltb (2 * month_start k) (61 * k + 2)) (λ k. 2 * month_start k < 61 * k + 2) all_low (λ k. Decides-ltb _ _) refl (λ _. refl) 480).0 refl
+
+-- the last month ends with day 14,609
+pub last_end : (k : ℕ) → k ≡ 479 → month_start k + length_of k ≡ 14610
+last_end k e = omega (arith, first_next k, ap (λ j. month_start (j + 1)) e, first_end)
 
 -- later months begin later
 pub first_mono : (k j : ℕ) → month_start k + 28 * j ≤ month_start (k + j)

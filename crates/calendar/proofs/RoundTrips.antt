@@ -7,15 +7,15 @@ use Rattle.calendar.specs.Dates.{month_start, length_of, month_length, month_of,
 use Rattle.calendar.proofs.Months.{month_in, one_month, in_known, first_suc}
 
 -- the parts of a date of 2000 to 2039
-record Parts (d : Date) : Type 0 where
-  y_low : 2000 ≤ d.year
-  y_high : d.year ≤ 2039
-  m_low : 1 ≤ d.month
-  m_high : d.month ≤ 12
-  d_low : 1 ≤ d.day
-  d_high : d.day ≤ month_length d.year d.month
+pub record Parts (d : Date) : Type 0 where
+  pub y_low : 2000 ≤ d.year
+  pub y_high : d.year ≤ 2039
+  pub m_low : 1 ≤ d.month
+  pub m_high : d.month ≤ 12
+  pub d_low : 1 ≤ d.day
+  pub d_high : d.day ≤ month_length d.year d.month
 
-parts : (d : Date) → valid d ≡ true → Parts d
+pub parts : (d : Date) → valid d ≡ true → Parts d
 parts d v = record {
   y_low = grind (arith, nat_tests);
   y_high = grind (arith, nat_tests);
@@ -48,7 +48,7 @@ day_date_day n h =
     cond-true _ _ _ v ∙ ap Some (rw back (omega (arith, i.from)))
 
 -- the day of a date lies in the date's month
-day_in : (d : Date) → Parts d → InMonth (month_index d.year d.month) (month_start (month_index d.year d.month) + (d.day - 1))
+pub day_in : (d : Date) → Parts d → InMonth (month_index d.year d.month) (month_start (month_index d.year d.month) + (d.day - 1))
 day_in d p =
     let next = first_suc (month_index d.year d.month) in
     let same = length_at d.year d.month p.y_low p.m_low p.m_high in

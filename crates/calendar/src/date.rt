@@ -15,7 +15,9 @@ pub struct Date {
 impl Day {
     #[tactic(auto, unfolding(crate::specs::Dates::date_of))]
     pub(crate) fn date(self) -> Date
-        ensures { result ≡ date_of self.number }
+        ensures is { result ≡ date_of self.number }
+        ensures from { 2000 ≤ result.year }
+        ensures to { result.year ≤ 2039 }
     {
         let month = self.month();
         Date {
@@ -23,13 +25,6 @@ impl Day {
             month: month.place(),
             day: self.number - month.start().number + 1,
         }
-    }
-
-    #[tactic(auto, unfolding(crate::specs::Dates::date_of))]
-    pub(crate) fn year(self) -> Year
-        ensures { result.number ≡ (date_of self.number).year }
-    {
-        self.month().year()
     }
 
     // Its place in its year, 1 January at 0.
@@ -54,8 +49,15 @@ pub fn date_of(day: u32) -> Option<Date>
 pub fn day_of(date: Date) -> Option<u32>
     ensures { result ≡ day_of date }
 {
-    let month = Year::new(date.year)?.month(date.month)?;
-    Some(month.day(date.day)?.number)
+    let year = Year::new(date.year)?;
+    let month = year.month(date.month)?;
+    // an early return: with `then` the closure would need a clause of its own for the bound;
+    // two tests, since with `contains` a caller's loop over days takes twice as long
+    // an early return, since the two look-ups before it return early too
+    if date.day < 1 || date.day > year.length(date.month) {
+        return None;
+    }
+    Some(month.start().number + (date.day - 1))
 }
 
 // A day's place in its year, 1 January at 0.

@@ -20,7 +20,10 @@ pub struct ExtraDays<C: Calendar> {
 fn is_rising(days: &[u32]) -> bool
     ensures { result ≡ rising 0 days.now }
 {
-    days.is_sorted_by(|a, b| a < b) && days.iter().all(|day| *day <= LAST_DAY)
+    match days {
+        [] => true,
+        [first, ..] => *first <= LAST_DAY && days.is_sorted_by(|a, b| a < b && *b <= LAST_DAY),
+    }
 }
 
 impl<C: Calendar + Drop> ExtraDays<C> {
@@ -38,12 +41,12 @@ impl<C: Calendar + Drop> ExtraDays<C> {
 impl<C: Calendar> Calendar for ExtraDays<C> {
     ghost kinds = { λ x n. (if among n x.days.items then Holiday else C.Calendar.kinds x.below n) };
 
+    #[tactic(auto, using(crate::proofs::ExtraLists::among_known))]
     fn kind(&self, day: u32) -> Option<DayKind> {
-        let kind = self.below.kind(day)?;
         // `contains`, since 64 days are few, and it asks nothing of their order
         if self.days.contains(&day) {
             return Some(DayKind::Holiday);
         }
-        Some(kind)
+        self.below.kind(day)
     }
 }

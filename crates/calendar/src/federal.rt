@@ -6,6 +6,7 @@ use super::date::Date;
 use super::day::Day;
 use super::kind::{Calendar, DayKind};
 use super::plain_week::weekday_kind;
+use super::year::Year;
 
 #[derive(Clone, Copy)]
 pub struct Federal;
@@ -30,7 +31,9 @@ fn is_easter_holiday(easter: Day, day: Day) -> bool
 fn is_holiday(day: Day) -> bool
     ensures { result ≡ holiday day.number }
 {
-    is_fixed_holiday(day.date()) || is_easter_holiday(day.year().easter(), day)
+    let date = day.date();
+    let year = Year { number: date.year };
+    is_fixed_holiday(date) || is_easter_holiday(year.easter(), day)
 }
 
 fn federal_kind(day: Day) -> DayKind

@@ -1,8 +1,8 @@
 // The months of 2000 to 2039, counted from January 2000, and the days that they begin and end on.
-ghost use Rattle.std.specs.Prelude.{◌≡◌, ◌+◌, ◌-◌, ◌*◌, ◌≤◌, ◌&&◌, nat_le, is_some, IfSome};
+ghost use Rattle.std.specs.Prelude.{◌≡◌, ◌+◌, ◌-◌, ◌*◌, ◌≤◌, nat_le, is_some, IfSome};
 ghost use Rattle.calendar.specs.Dates.{month_start, month_end, length_of, month_of, month_number, year_of, place_of, InMonth, on_days, on_months};
 
-use super::day::Day;
+use super::day::{Day, LAST_DAY};
 use super::year::Year;
 
 // December 2039
@@ -45,23 +45,8 @@ impl Month {
         self.number % 12 + 1
     }
 
-    // How many days it has.
-    #[tactic(auto, unfolding(crate::specs::Dates::length_of))]
-    pub(crate) fn length(self) -> u32
-        ensures is { result ≡ length_of self.number }
-        ensures low { 28 ≤ result }
-        ensures high { result ≤ 31 }
-    {
-        match self.place() {
-            2 if self.year().is_leap() => 29,
-            2 => 28,
-            4 | 6 | 9 | 11 => 30,
-            _ => 31,
-        }
-    }
-
     // Its first day. It and the months after it end by the last day.
-    #[tactic(auto, using(crate::proofs::Months::closed_is, crate::proofs::Months::room))]
+    #[tactic(auto, using(crate::proofs::Months::start_is, crate::proofs::Months::room))]
     pub(crate) fn start(self) -> Day
         ensures is { result.number ≡ month_start self.number }
         ensures room { result.number + length_of self.number + 28 * (479 - self.number) ≤ 14610 }
@@ -75,27 +60,20 @@ impl Month {
         }
     }
 
-    // Its last day.
+    // Its last day, the one before the next month's first.
+    #[tactic(auto, using(crate::proofs::Months::first_next, crate::proofs::Months::length_low, crate::proofs::Months::last_end))]
     pub(crate) fn end(self) -> Day
         ensures { result.number ≡ month_end self.number }
     {
+        if self.number == LAST_MONTH {
+            return Day { number: LAST_DAY };
+        }
+        let next = Month {
+            number: self.number + 1,
+        };
         Day {
-            number: self.start().number + (self.length() - 1),
+            number: next.start().number - 1,
         }
-    }
-
-    // Its day at a place, 1 for the first, if it has such a day.
-    pub(crate) fn day(self, place: u32) -> Option<Day>
-        ensures variant { is_some result ≡ (nat_le 1 place && nat_le place (length_of self.number)) }
-        ensures value { IfSome result (λ day. day.number ≡ month_start self.number + (place - 1)) }
-    {
-        // an early return: with `then` the closure would need a clause of its own for the bound
-        if !(1..=self.length()).contains(&place) {
-            return None;
-        }
-        Some(Day {
-            number: self.start().number + (place - 1),
-        })
     }
 }
 
@@ -105,11 +83,12 @@ impl Day {
         ensures is { result.number ≡ month_of self.number }
         ensures inside { InMonth result.number self.number }
     {
-        // no month has more than 31 days; a `for`, since `find` would need a closure with a contract of its own
-        for number in self.number / 31..LAST_MONTH {
-            let month = Month { number };
-            if self.number <= month.end().number {
-                return month;
+        // k months from January 2000 on have at most (61 k + 1) / 2 days, so the first of these begins in time;
+        // a `for`, since `find` would need a closure with a contract of its own
+        for number in 2 * self.number / 61..LAST_MONTH {
+            let next = Month { number: number + 1 };
+            if self.number < next.start().number {
+                return Month { number };
             }
         }
         Month { number: LAST_MONTH }

@@ -1,6 +1,6 @@
 // The years 2000 to 2039.
 ghost use Rattle.std.specs.Prelude.{◌≡◌, ◌≤◌, ◌&&◌, nat_le, is_some, IfSome};
-ghost use Rattle.calendar.specs.Dates.{leap, known_year, month_index};
+ghost use Rattle.calendar.specs.Dates.{leap, month_length, known_year, month_index};
 
 use super::month::Month;
 
@@ -29,6 +29,18 @@ impl Year {
         ensures { result ≡ leap self.number }
     {
         self.number % 4 == 0 && self.number % 100 != 0 || self.number % 400 == 0
+    }
+
+    // How many days its month at a place has.
+    pub(crate) fn length(self, place: u32) -> u32
+        ensures { result ≡ month_length self.number place }
+    {
+        match place {
+            2 if self.is_leap() => 29,
+            2 => 28,
+            4 | 6 | 9 | 11 => 30,
+            _ => 31,
+        }
     }
 
     // Its month at a place from 1 to 12.

@@ -1,23 +1,20 @@
-use Rattle.std.proofs.Common.{◌≡◌, ℕ, suc, ◌/◌, ◌<◌, ◌≤◌, sym, ap, arith}
+use Rattle.std.proofs.Common.{◌≡◌, ℕ, suc, ◌*◌, ◌/◌, ◌<◌, ◌≤◌, sym, ap, add-one, arith}
 use Rattle.calendar.specs.Dates.{month_start, month_of, InMonth}
-use Rattle.calendar.proofs.Months.{first_le31, first_suc, first_next, first_end, length_low, one_month}
+use Rattle.calendar.proofs.Months.{first_low, first_end, one_month}
 use Rattle.calendar.proofs.day.Day.month.Goals as goal
 
 pub loop-number-init : goal.loop-number-init
-loop-number-init c = omega (arith, first_le31 (c.args.self.number / 31))
-
-pub loop-number-preserved : goal.loop-number-preserved
-loop-number-preserved c = omega (arith, first_next c.loop-number.number, length_low c.loop-number.number)
+loop-number-init c = omega (arith, first_low (2 * c.args.self.number / 61) (omega arith))
 
 found : (k n : ℕ) → k < 480 → month_start k ≤ n → n < month_start (suc k) → record { is : k ≡ month_of n; inside : InMonth k n }
 found k n known from to =
     let i : InMonth k n = record { known = known; from = from; to = to } in
     record { is = sym (one_month k n i); inside = i }
 
-pub returns-then-self-end : goal.returns-then-self-end
-returns-then-self-end c =
+pub returns-then-self-start : goal.returns-then-self-start
+returns-then-self-start c =
     let k = c.loop-number.number in
-    found k c.args.self.number (omega arith) c.loop-number.invariant (omega (arith, first_suc k, length_low k))
+    found k c.args.self.number (omega arith) c.loop-number.invariant (omega (arith, ap month_start (add-one k)))
 
 pub returns : goal.returns
 returns c =
