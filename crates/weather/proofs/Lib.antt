@@ -1,2 +1,1 @@
-pub mod UntoldProfiles
 pub mod WeatherTells

@@ -1,64 +1,70 @@
--- What telling a temperature to one profile does to all of them. Assumes nothing.
-use Rattle.std.proofs.Common.{◌≡◌, ℕ, ◌<◌, ◌≤◌, true, false, cond, eqb, leb, ltb, List, length, set, ℤ, MutBor, is_ok, Some, Ok, Err, Option, Result, sym, refl, ap, ◌∙◌, ⊎_elim, arith, length-set}
-use Rattle.std.proofs.lemmas.Bool.{cases_eq, cond-true, lt-ltb, le-leb}
-use Rattle.std.proofs.lemmas.Bool.Decides.{nat_tests}
-use Rattle.std.proofs.lemmas.Grind.{common_steps}
-use Rattle.std.proofs.lemmas.List.{set-get_or}
-use Rattle.std.proofs.lemmas.Option.{gets, get_or_from_slice_get, slice_get_read, slice_get_within}
-use Rattle.std.specs.List.{IsItemAtMut, slice_get}
-use Rattle.std.specs.Option.{option_map, option_and_then}
-use Rattle.units.specs.declared.refusal.Refusal.{Refusal}
+-- What telling a temperature does to weather profiles. Assumes nothing.
+use Rattle.std.proofs.Common.{◌≡◌, ℕ, ◌-◌, ◌/◌, ◌%◌, ◌<◌, ◌≤◌, Bool, true, false, cond, ◌&&◌, eqb, ltb, leb, List, length, get_or, set, ℤ, is_ok, Some, None, Ok, Option, sym, refl, ap, ◌∙◌, arith}
+use mathlib.Core.Path.{fun_ext}
+use Rattle.std.proofs.lemmas.Nat.{div-mul-add, mod-mul-add}
+use Rattle.std.proofs.lemmas.List.{get_or-set_same, get_or-set_other}
+use Rattle.std.proofs.lemmas.Bool.{lt-ltb, le-leb, eqb-true, and_from, and_parts, eq-eqb, cond-true, both_ways}
+use Rattle.std.specs.Option.{option_map}
+use Rattle.shelf.specs.declared.group.Group.{Group}
 use Rattle.shelf.specs.Meaning.{Meaning, tell_answer, tell_after, with_day, told_answer}
-use Rattle.weather.specs.Weathers.{known_row, given_row, weather_meaning}
-use Rattle.weather.specs.declared.profile.WeatherProfile.{WeatherProfile}
+use Rattle.weather.specs.Temperatures.{temperature_row}
+use Rattle.weather.specs.Weathers.{holds, place, told_row, profile_row, weather_meaning}
+use Rattle.weather.specs.WeatherDays.{held_parts}
 
-pub found : {X : Type 0} (xs : List X) (p : ℕ) (r : Option (MutBor X)) (x : MutBor X) → r ≡ Some x → IsItemAtMut xs p r → slice_get xs p ≡ Some x.now
-found xs p r x is item = let there = rw is at item in slice_get_read xs (length xs) p x.now refl there.3.0 there.1
+-- two profiles' days that the window holds have two places
+places_apart : (first days p d q e : ℕ) → first ≤ d → d - first < days → first ≤ e → e - first < days → place first days q e ≡ place first days p d → (q ≡ p) × (e ≡ d)
+places_apart first days p d q e from within from-e within-e same =
+    let at : e - first ≡ d - first = sym (mod-mul-add q days (e - first) within-e) ∙ ap (λ x. x % days) same ∙ mod-mul-add p days (d - first) within in
+    (sym (div-mul-add q days (e - first) within-e) ∙ ap (λ x. x / days) same ∙ div-mul-add p days (d - first) within, omega arith)
 
-put_same : {X : Type 0} (xs : List X) (p : ℕ) (x y : X) → slice_get xs p ≡ Some x → slice_get (set xs p y) p ≡ Some y
-put_same xs p x y at = let short : p < length xs = slice_get_within xs p x at in grind (arith, common_steps, gets)
+is_both : (p d q e : ℕ) → (eqb q p && eqb e d) ≡ true → (q ≡ p) × (e ≡ d)
+is_both p d q e t = let both = and_parts (eqb q p) (eqb e d) t in (eqb-true q p both.0, eqb-true e d both.1)
 
-put_other : {X : Type 0} (xs : List X) (p q : ℕ) (y : X) → (q ≡ p → ⊥) → slice_get (set xs p y) q ≡ slice_get xs q
-put_other xs p q y other = grind (arith, common_steps, gets)
+not_both : (p d q e : ℕ) → (eqb q p && eqb e d) ≡ false → (q ≡ p) × (e ≡ d) → ⊥
+not_both p d q e t h = both_ways (eqb q p && eqb e d) t (and_from _ _ (eq-eqb q p h.0) (eq-eqb e d h.1))
 
-module _ (profiles : List WeatherProfile) (p : ℕ) (w after : WeatherProfile) (at : slice_get profiles p ≡ Some w) where
+module _ (groups : List Group) (rows : List (List ℕ)) (first days : ℕ) (told : List (Option ℕ)) (p d k row : ℕ) (held : holds (length groups) first days p d ≡ true) (is : place first days p d ≡ k) (short : k < length told) where
   abbrev before : Meaning
-  before = weather_meaning profiles
+  before = weather_meaning groups rows first days told
 
-  -- what is the same of both is the same at each place
-  seen_same : {X : Type 0} (see : Option WeatherProfile → X) → see (Some after) ≡ see (Some w) → (q : ℕ) → see (slice_get (set profiles p after) q) ≡ see (slice_get profiles q)
-  seen_same see same q = ⊎_elim
-      (λ here. ap (λ j. see (slice_get (set profiles p after) j)) here ∙ ap see (put_same profiles p w after at) ∙ same ∙ ap see (sym at) ∙ ap (λ j. see (slice_get profiles j)) (sym here))
-      (λ other. ap see (put_other profiles p q after other))
-      (cases_eq q p)
+  abbrev next : List (Option ℕ)
+  next = set told k (Some row)
 
-  module _ (d : ℕ) (given : Option (List ℕ)) (known : (e : ℕ) → known_row after e ≡ cond (eqb e d) given (known_row w e)) where
-    known_set : (q e : ℕ) → (weather_meaning (set profiles p after)).known q e ≡ (with_day before p d given).known q e
-    known_set q e = ⊎_elim
-        (λ here. grind (arith, nat_tests, here, put_same profiles p w after at, at, known e))
-        (λ other. grind (arith, nat_tests, other, put_other profiles p q after other))
-        (cases_eq q p)
+  told_same : told_row (length groups) first days next p d ≡ Some row
+  told_same = cond-true _ _ _ held ∙ ap (λ j. get_or next j None) is ∙ get_or-set_same told k (Some row) None short
 
-    day_set : after.group ≡ w.group → given_row after ≡ given_row w → weather_meaning (set profiles p after) ≡ with_day before p d given
-    day_set groups gives = λ i. record {
-      count = length-set profiles p after i;
-      group = λ q. seen_same (option_map (λ v. v.group)) (ap Some groups) q i;
-      known = λ q e. known_set q e i;
-      gives = λ q e t. seen_same (option_and_then (λ v. given_row v e t)) (ap (λ g. g e t) gives) q i;
-    }
+  told_other : (q e : ℕ) → ((q ≡ p) × (e ≡ d) → ⊥) → (b : Bool) → (b ≡ true → (q < length groups) × (first ≤ e) × (e - first < days)) → cond b (get_or next (place first days q e) None) None ≡ cond b (get_or told (place first days q e) None) None
+  told_other q e ne true within =
+      let here = held_parts (length groups) first days p d held in
+      let there = within refl in
+      get_or-set_other told k (place first days q e) (Some row) None (λ same. ne (places_apart first days p d q e here.1 here.2 there.1 there.2 (same ∙ sym is)))
+  told_other q e ne false within = refl
 
-  pub answers : (d : ℕ) (t : ℤ) → d ≤ 14609 → tell_answer before p d t ≡ told_answer (known_row w d) (given_row w d t)
-  answers d t exists =
-      cond-true (ltb p (length profiles)) _ _ (lt-ltb p (length profiles) (slice_get_within profiles p w at))
-      ∙ cond-true (leb d 14609) _ _ (le-leb d 14609 exists)
-      ∙ ap (λ o. told_answer (option_and_then (λ v. known_row v d) o) (option_and_then (λ v. given_row v d t) o)) at
+  known_at : (q e : ℕ) (b : Bool) → (b ≡ true → (q ≡ p) × (e ≡ d)) → (b ≡ false → (q ≡ p) × (e ≡ d) → ⊥) → (weather_meaning groups rows first days next).known q e ≡ cond b (Some (profile_row rows p row)) (before.known q e)
+  known_at q e true same other =
+      ap (λ x. (weather_meaning groups rows first days next).known x e) (same refl).0 ∙ ap (λ y. (weather_meaning groups rows first days next).known p y) (same refl).1
+      ∙ ap (option_map (profile_row rows p)) told_same
+  known_at q e false same other = ap (option_map (profile_row rows q)) (told_other q e (other refl) (holds (length groups) first days q e) (held_parts (length groups) first days q e))
 
-  pub tells_day : (d : ℕ) (t : ℤ) (r : Result (Unit {0}) Refusal) → r ≡ tell_answer before p d t → after.group ≡ w.group → given_row after ≡ given_row w → (is_ok r ≡ true → (e : ℕ) → known_row after e ≡ cond (eqb e d) (given_row w d t) (known_row w e)) → (is_ok r ≡ false → after ≡ w) → weather_meaning (set profiles p after) ≡ tell_after before p d t
-  tells_day d t (Ok u) is groups gives known kept =
-      day_set d (given_row w d t) (known refl) groups gives
-      ∙ ap (λ o. with_day before p d (option_and_then (λ v. given_row v d t) o)) (sym at)
-      ∙ sym (cond-true (is_ok (tell_answer before p d t)) _ _ (ap is_ok (sym is)))
-  tells_day d t (Err e) is groups gives known kept =
-      ap (λ v. weather_meaning (set profiles p v)) (kept refl ∙ sym (get_or_from_slice_get profiles p w w at))
-      ∙ ap weather_meaning (set-get_or profiles p w)
-      ∙ sym (ap (λ a. cond (is_ok a) (with_day before p d (before.gives p d t)) before) (sym is))
+  abbrev remade : (ℕ → ℕ → Option (List ℕ)) → Meaning
+  remade known = record { count = length groups; group = before.group; known = known; gives = before.gives }
+
+  day_set : weather_meaning groups rows first days next ≡ with_day before p d (Some (profile_row rows p row))
+  day_set = ap remade (fun_ext (λ q. fun_ext (λ e. known_at q e (eqb q p && eqb e d) (is_both p d q e) (not_both p d q e))))
+
+  module _ (t : ℤ) (exists : d ≤ 14609) (unknown : get_or told k None ≡ None) (takes : temperature_row t ≡ Some row) where
+    gives_row : before.gives p d t ≡ Some (profile_row rows p row)
+    gives_row = cond-true _ _ _ held ∙ ap (option_map (profile_row rows p)) takes
+
+    not_known : before.known p d ≡ None
+    not_known = ap (option_map (profile_row rows p)) (cond-true _ _ _ held ∙ ap (λ j. get_or told j None) is ∙ unknown)
+
+    pub grants : tell_answer before p d t ≡ Ok tt
+    grants =
+        cond-true (ltb p (length groups)) _ _ (lt-ltb p (length groups) (held_parts (length groups) first days p d held).0)
+        ∙ cond-true (leb d 14609) _ _ (le-leb d 14609 exists)
+        ∙ ap (λ o. told_answer o (before.gives p d t)) not_known
+        ∙ ap (told_answer None) gives_row
+
+    pub tells_day : weather_meaning groups rows first days next ≡ tell_after before p d t
+    tells_day = day_set ∙ ap (with_day before p d) (sym gives_row) ∙ sym (cond-true (is_ok (tell_answer before p d t)) _ _ (ap is_ok grants))

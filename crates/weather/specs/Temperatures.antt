@@ -2,9 +2,8 @@
 --     held d               d degrees held within -17 to 17, and 17 added
 --     measurable t         t tenths of a degree are from -500 to 500
 --     temperature_row t    the row of t tenths of a degree, rounded down to a degree; none where they are not measurable
---     Chosen told          every row that was told is one of the 35
 -- Assumes nothing.
-use Rattle.std.specs.Prelude.{◌≡◌, ℕ, ◌+◌, ◌-◌, ◌<◌, min, Bool, cond, List, ℤ, pos, negsuc, Some, None, Option, nat_le, nat_lt, slice_index_or}
+use Rattle.std.specs.Prelude.{ℕ, ◌+◌, ◌-◌, min, Bool, cond, ℤ, pos, negsuc, Some, None, Option, nat_le, nat_lt}
 use Rattle.units.specs.Energy.{floor_div}
 
 -- negsuc d is -(d + 1)
@@ -18,6 +17,3 @@ measurable (negsuc t) = nat_lt t 500
 
 abbrev pub temperature_row : ℤ → Option ℕ
 temperature_row t = cond (measurable t) (Some (held (floor_div t 10))) None
-
-abbrev pub Chosen : List (Option ℕ) → Type 0
-Chosen told = (k r : ℕ) → slice_index_or told k None ≡ Some r → r < 35

@@ -1,57 +1,42 @@
 -- Profiles whose row of a day is chosen by the day's mean temperature, which is told.
---     WeatherRule n rows first days              n profiles, at most 64, have 35 rows each, and a window of at most 1,200 days lies
---                                                within the days 0 to 14,609
---     Untold groups rows first days profiles     the profiles have these groups and, one profile after the other, these rows; the window
---                                                of each is the `days` days from day `first` on, and nothing is told of any
---     holds w d                                  day d lies in the window of profile w
---     place w d                                  where what was told of that day stands
---     told_row w d                               the number of the row told for a day of w, if any
---     profile_row w r                            row r of w
---     known_row w d                              the row of a day of w, where it was told
---     given_row w d t                            the row that t tenths of a degree give a day of w's window, if any
---     weather_meaning                            a day of the window is known where it was told, and takes every temperature that has a row
+--     WeatherRule n rows first days    n profiles, at most 64, have 35 rows each, and a window of at most 1,200 days lies within the
+--                                      days 0 to 14,609
+--     Chosen told                      every row that was told is one of a profile's 35
+--     holds n first days p d           profile p is one of n, and day d lies in the window
+--     place first days p d             where what was told of that day stands: days by days, profile after profile
+--     told_row                         the number of the row told for a profile's day, if any
+--     profile_row rows p r             row r of profile p
+--     weather_meaning                  a day of the window is known where it was told, and takes every temperature that has a row
 -- Assumes nothing.
-use Rattle.std.specs.Prelude.{◌≡◌, ℕ, ◌+◌, ◌-◌, ◌*◌, ◌≤◌, Bool, cond, ◌&&◌, List, [], length, map, replicate, ℤ, None, Option, nat_le, nat_lt, slice_index_or, option_and_then}
+use Rattle.std.specs.Prelude.{◌≡◌, ℕ, ◌+◌, ◌-◌, ◌*◌, ◌<◌, ◌≤◌, Bool, cond, ◌&&◌, List, [], length, Some, None, Option, nat_le, nat_lt, slice_index_or}
 use Rattle.std.specs.Option.{option_map}
-use Rattle.std.specs.List.{All, flat_map, slice_get}
-use Rattle.shelf.specs.declared.day_row.DayRow.{DayRow}
+use Rattle.std.specs.List.{slice_get}
 use Rattle.shelf.specs.declared.group.Group.{Group}
-use Rattle.shelf.specs.DayRows.{rows_of}
 use Rattle.shelf.specs.Meaning.{Meaning}
 use Rattle.weather.specs.Temperatures.{temperature_row}
-use Rattle.weather.specs.declared.profile.WeatherProfile.{WeatherProfile}
 
 abbrev pub WeatherRule : ℕ → ℕ → ℕ → ℕ → Type 0
 WeatherRule n rows first days = (n ≤ 64) × (rows ≡ 35 * n) × (days ≤ 1200) × (first + days ≤ 14610)
 
-abbrev pub Untold : List Group → List DayRow → ℕ → ℕ → List WeatherProfile → Type 0
-Untold groups rows first days profiles =
-    (map (λ w. w.group) profiles ≡ groups)
-    × (flat_map (λ w. w.rows) profiles ≡ rows)
-    × All (λ w. (w.first ≡ first) × (w.told.items ≡ replicate days None)) profiles
+abbrev pub Chosen : List (Option ℕ) → Type 0
+Chosen told = (k r : ℕ) → slice_index_or told k None ≡ Some r → r < 35
 
-abbrev pub holds : WeatherProfile → ℕ → Bool
-holds w d = nat_le w.first d && nat_lt (d - w.first) (length w.told.items)
+abbrev pub holds : ℕ → ℕ → ℕ → ℕ → ℕ → Bool
+holds n first days p d = nat_lt p n && (nat_le first d && nat_lt (d - first) days)
 
-abbrev pub place : WeatherProfile → ℕ → ℕ
-place w d = d - w.first
+abbrev pub place : ℕ → ℕ → ℕ → ℕ → ℕ
+place first days p d = p * days + (d - first)
 
-abbrev pub told_row : WeatherProfile → ℕ → Option ℕ
-told_row w d = cond (holds w d) (slice_index_or w.told.items (place w d) None) None
+abbrev pub told_row : ℕ → ℕ → ℕ → List (Option ℕ) → ℕ → ℕ → Option ℕ
+told_row n first days told p d = cond (holds n first days p d) (slice_index_or told (place first days p d) None) None
 
-abbrev pub profile_row : WeatherProfile → ℕ → List ℕ
-profile_row w r = slice_index_or (rows_of w.rows) r []
+abbrev pub profile_row : List (List ℕ) → ℕ → ℕ → List ℕ
+profile_row rows p r = slice_index_or rows (35 * p + r) []
 
-abbrev pub known_row : WeatherProfile → ℕ → Option (List ℕ)
-known_row w d = option_map (profile_row w) (told_row w d)
-
-abbrev pub given_row : WeatherProfile → ℕ → ℤ → Option (List ℕ)
-given_row w d t = cond (holds w d) (option_map (profile_row w) (temperature_row t)) None
-
-abbrev pub weather_meaning : List WeatherProfile → Meaning
-weather_meaning profiles = record {
-  count = length profiles;
-  group = λ p. option_map (λ w. w.group) (slice_get profiles p);
-  known = λ p d. option_and_then (λ w. known_row w d) (slice_get profiles p);
-  gives = λ p d t. option_and_then (λ w. given_row w d t) (slice_get profiles p);
+abbrev pub weather_meaning : List Group → List (List ℕ) → ℕ → ℕ → List (Option ℕ) → Meaning
+weather_meaning groups rows first days told = record {
+  count = length groups;
+  group = slice_get groups;
+  known = λ p d. option_map (profile_row rows p) (told_row (length groups) first days told p d);
+  gives = λ p d t. cond (holds (length groups) first days p d) (option_map (profile_row rows p) (temperature_row t)) None;
 }

@@ -1,7 +1,6 @@
 // Shelves of temperature-dependent load profiles.
 #![tactic(auto)]
 
-mod profile;
 mod temperature;
 mod weather;
 

@@ -1,29 +1,24 @@
-use Rattle.std.proofs.Common.{sym, ◌∙◌, w32, SFits, rules}
+use Rattle.std.proofs.Common.{◌≡◌, ◌<◌, length, get_or, None, sym, ap, ◌∙◌, arith, w32, SFits, rules}
 use Rattle.std.proofs.lemmas.Int.{to_z-of_z}
-use Rattle.weather.proofs.WeatherTells.{found, answers, tells_day}
+use Rattle.std.proofs.lemmas.Option.{cond_some}
+use Rattle.shelf.specs.DayRows.{rows_of}
+use Rattle.weather.specs.Temperatures.{temperature_row}
+use Rattle.weather.specs.Weathers.{holds, place}
+use Rattle.weather.proofs.WeatherTells.{tells_day}
 use Rattle.weather.proofs.weather.WeatherTellShelf.tell.Goals as goal
-
-pub returns-clause-answer : goal.returns-clause-answer
-returns-clause-answer c =
-    let profiles = c.args.self.now.profiles.items in
-    let p = c.args.tell.profile in
-    let d = c.args.tell.day in
-    let t = c.args.tell.number in
-    let fits : SFits w32 t = search rules in
-    let w = c.in_ok-profile.profile in
-    let at = found profiles p c.get_mut.result w c.in_ok-profile.ensures.ok_part c.get_mut.ensures.item in
-    let answer = simp to_z-of_z at c.tell.ensures.answer in
-    answer ∙ sym (answers profiles p w.now c.tell.new.self at d t c.if-tell-gt-LAST_DAY.false)
 
 pub returns-clause-after : goal.returns-clause-after
 returns-clause-after c =
-    let profiles = c.args.self.now.profiles.items in
+    let s = c.args.self.now in
     let p = c.args.tell.profile in
     let d = c.args.tell.day in
     let t = c.args.tell.number in
+    let k = c.in_ok-at.at in
+    let row = c.in_ok-row.row in
     let fits : SFits w32 t = search rules in
-    let w = c.in_ok-profile.profile in
-    let at = found profiles p c.get_mut.result w c.in_ok-profile.ensures.ok_part c.get_mut.ensures.item in
-    let known = simp to_z-of_z at c.tell.ensures.after in
-    let told = c.tell.ensures in
-    tells_day profiles p w.now c.tell.new.self at d t c.tell.result (returns-clause-answer c) told.group told.given known told.kept
+    let held = cond_some (holds (length s.groups.items) s.first s.days p d) (place s.first s.days p d) k (sym c.place.ensures.value ∙ c.in_ok-at.ensures.ok_part) in
+    let short : k < length s.told.items = search rules in
+    let unknown : get_or s.told.items k None ≡ None = grind arith in
+    let taken = sym (ap temperature_row (to_z-of_z w32 t fits)) ∙ sym c.temperature_row.ensures ∙ c.in_ok-row.ensures.ok_part in
+    let after = tells_day s.groups.items (rows_of s.rows.items) s.first s.days s.told.items p d k row held.0 held.1 short t c.if-tell-gt-LAST_DAY.false unknown taken in
+    grind (arith, after)
