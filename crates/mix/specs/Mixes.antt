@@ -25,7 +25,7 @@ pub record MixFits (m : Meaning) (g : Group) (shares : List Share) : Type 0 wher
   pub whole : percent_sum shares ≡ 100
 
 abbrev pub shares_of : Mix → List Share
-shares_of mix = shares_in mix.shares
+shares_of mix = shares_in mix.count mix.shares
 
 pub record Holds (g : Group) (shares : List Share) (mix : Mix) : Type 0 where
   pub grouped : mix.group ≡ g

@@ -1,6 +1,7 @@
 // What a mix loads, by the shelf that has its profiles.
 ghost use Rattle.std.specs.Prelude.{◌≡◌, ◌≤◌};
 ghost use Rattle.mix.specs.Loads.{known_on, load};
+ghost use Rattle.mix.specs.Mixes.{shares_of};
 
 use super::Mix;
 use crate::share::Share;
@@ -13,13 +14,18 @@ impl Mix {
         self.group
     }
 
+    fn shares(&self) -> &[Share]
+        ensures { result.now ≡ shares_of self.now }
+    {
+        &self.shares[..usize::from(self.count)]
+    }
+
     // Whether each of its profiles is known on a day.
     pub fn known_on<S: Shelf>(&self, shelf: &S, day: u32) -> bool
         ensures { result ≡ known_on (S.meaning shelf.now) self.now day }
     {
-        self.shares
+        self.shares()
             .iter()
-            .flatten()
             .all(|share| shelf.value(share.profile, day, 0).is_some())
     }
 
@@ -32,6 +38,6 @@ impl Mix {
             let value = shelf.value(share.profile, day, quarter).unwrap_or(0);
             u32::from(share.percent) * u32::from(value)
         };
-        self.shares.iter().flatten().map(load).sum()
+        self.shares().iter().map(load).sum()
     }
 }

@@ -10,6 +10,12 @@ use shelf::{Group, Shelf};
 use std::array;
 use units::Refusal;
 
+// What stands in a place behind the last share.
+const NO_SHARE: Share = Share {
+    profile: 0,
+    percent: 0,
+};
+
 // Shelf and group go together at the making alone, so they are no struct.
 fn share_fits<S: Shelf>(shelf: &S, group: Group, share: &Share) -> bool
     ensures { Decides result (ShareFits (S.meaning shelf.now) group share.now) }
@@ -45,7 +51,8 @@ fn filled(group: Group, shares: &[Share]) -> Mix
 {
     Mix {
         group,
-        shares: array::from_fn(|place| shares.get(place).copied()),
+        count: shares.len() as u8,
+        shares: array::from_fn(|place| shares.get(place).copied().unwrap_or(NO_SHARE)),
     }
 }
 
