@@ -23,6 +23,19 @@ const SHARES: [Share; 2] = [
     },
 ];
 
+// A value in every quarter hour, a price in every hour, and a month of application.
+const FLAT: [(&str, u16, i32, u32); 9] = [
+    ("57.10 euros in month 90", 1_000, 5_710, 90),
+    ("44.80 euros in month 91", 1_000, 4_480, 91),
+    ("half a hundredth", 9_999, 5_715, 100),
+    ("the most", 9_999, 300_000, 479),
+    ("too high a price", 1_000, 300_001, 90),
+    ("below zero", 1_000, -1, 90),
+    ("too early a month", 1_000, 5_710, 12),
+    ("too late a month", 1_000, 5_710, 480),
+    ("no energy", 0, 5_710, 13),
+];
+
 fn priced_flat(value: u16, price: i32, month: u32) -> Result<UnifiedPrice, Refusal> {
     let shelf = Flat::new(value, Group::S)?;
     let feed = FlatFeed::new(price)?;
@@ -60,22 +73,10 @@ fn print_answer(
 }
 
 fn print_flat(rt: HostRuntime) -> anyhow::Result<()> {
-    let answers = [
-        ("57.10 euros in month 90", priced_flat(1_000, 5_710, 90)),
-        ("44.80 euros in month 91", priced_flat(1_000, 4_480, 91)),
-        ("half a hundredth", priced_flat(9_999, 5_715, 100)),
-        ("the most", priced_flat(9_999, 300_000, 479)),
-        ("too high a price", priced_flat(1_000, 300_001, 90)),
-        ("below zero", priced_flat(1_000, -1, 90)),
-        ("too early a month", priced_flat(1_000, 5_710, 12)),
-        ("too late a month", priced_flat(1_000, 5_710, 480)),
-        ("no energy", priced_flat(0, 5_710, 13)),
-        ("another group", of_other_group()),
-    ];
-    for (name, answer) in answers {
-        print_answer(rt, name, answer)?;
+    for (name, value, price, month) in FLAT {
+        print_answer(rt, name, priced_flat(value, price, month))?;
     }
-    Ok(())
+    print_answer(rt, "another group", of_other_group())
 }
 
 fn print_hours(rt: HostRuntime) -> anyhow::Result<()> {
