@@ -17,9 +17,8 @@ fn print_group(rt: &impl Print, group: &Group) -> anyhow::Result<usize>
     let name = group.name;
     println!(rt; "{name}: month of application, price recomputed, price printed")?;
     let mut agreeing = 0;
-    let years = group.months.array_windows::<YEAR>();
-    for (k, (year, printed)) in years.zip(&group.printed).enumerate() {
-        let price = yearly_price(year)?;
+    for (k, printed) in group.printed.iter().enumerate() {
+        let price = yearly_price(&group.months[k..k + YEAR])?;
         print_price(rt, k + BEFORE_APPLICATION, price, *printed)?;
         if price.count() == i32::from(*printed) {
             agreeing += 1;

@@ -7,12 +7,19 @@ use crate::published::Month;
 use price::rounded_price;
 use units::{PriceHundredths, Refusal};
 
-// Hundredths of a kWh and thousandths of a euro: with 10,000 of the cost's unit to a cent per MWh.
+// A thousandth of a euro by a hundredth of a kWh is 10,000 cents by a MWh.
+fn in_cost_unit(cost: u32) -> i64
+    ensures { result ≡ pos (10000 * cost) }
+{
+    10_000 * i64::from(cost)
+}
+
+// The energies are hundredths of a kWh, the costs thousandths of a euro.
 pub(crate) fn yearly_price(months: &[Month]) -> Result<PriceHundredths, Refusal>
     requires { length months.now ≤ 12 }
     ensures { counted result ≡ priced (pos (10000 * sum_by (λ (m : OneMonth). m.cost) months.now)) (sum_by (λ (m : OneMonth). m.energy) months.now) }
 {
     let energy: u32 = months.iter().map(|month| u32::from(month.energy)).sum();
     let cost: u32 = months.iter().map(|month| u32::from(month.cost)).sum();
-    rounded_price(10_000 * i64::from(cost), u64::from(energy))
+    rounded_price(in_cost_unit(cost), u64::from(energy))
 }
