@@ -1,2 +1,1 @@
 mod LoadLaws
-mod Places

@@ -1,6 +1,7 @@
 // Shelves of temperature-dependent profiles, whose days are told one by one.
 ghost use Rattle.std.specs.Prelude.{◌≡◌, ℕ, ◌*◌, ◌<◌, ◌≤◌, length, replicate, IfSome, if◌then◌else◌, Some, None, vec_len, Decides};
-ghost use Rattle.shelf.specs.DayRows.{rows_of};
+ghost use Rattle.std.specs.Option.{option_map};
+ghost use Rattle.shelf.specs.DayRows.{values_of, rows_of};
 ghost use Rattle.units.specs.Makings.{MakesIn};
 ghost use Rattle.weather.specs.Weathers.{WeatherRule, Chosen, holds, place, told_row, weather_meaning};
 ghost use Rattle.std.proofs.Common.{arith};
@@ -86,6 +87,14 @@ impl Weather {
     {
         self.told[self.place(profile, day)?]
     }
+
+    // The row of a profile's day, where it was told.
+    fn known_row(&self, profile: u32, day: u32) -> Option<&DayRow>
+        ensures { values_of (option_map (λ x. x.now) result) ≡ (weather_meaning self.now.groups.items (rows_of self.now.rows.items) self.now.first self.now.days self.now.told.items).known profile day }
+    {
+        let row = self.told_row(profile, day)?;
+        Some(&self.rows[DEGREES * profile as usize + usize::from(row)])
+    }
 }
 
 impl Shelf for Weather {
@@ -102,8 +111,12 @@ impl Shelf for Weather {
     }
 
     fn row(&self, profile: u32, day: u32) -> Option<DayRow> {
-        let row = self.told_row(profile, day)?;
-        Some(self.rows[DEGREES * profile as usize + usize::from(row)])
+        self.known_row(profile, day).copied()
+    }
+
+    // As the trait has it, but for the copy of a row.
+    fn day_sum(&self, profile: u32, day: u32) -> Option<u32> {
+        self.known_row(profile, day).map(DayRow::sum)
     }
 }
 

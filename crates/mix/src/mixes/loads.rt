@@ -14,6 +14,7 @@ impl Mix {
         self.group
     }
 
+    // In their order.
     fn shares(&self) -> &[Share]
         ensures { result.now ≡ shares_of self.now }
     {

@@ -7,7 +7,6 @@ ghost use Rattle.mix.specs.Mixes.{ShareFits, SharesFit, MixFits, Holds};
 use super::{MOST_SHARES, Mix};
 use crate::share::Share;
 use shelf::{Group, Shelf};
-use std::array;
 use units::Refusal;
 
 // What stands in a place behind the last share.
@@ -49,10 +48,12 @@ fn filled(group: Group, shares: &[Share]) -> Mix
     requires whole { percent_sum shares.now ≡ 100 }
     ensures { Holds group shares.now result }
 {
+    let mut places = [NO_SHARE; MOST_SHARES];
+    places[..shares.len()].copy_from_slice(shares);
     Mix {
         group,
         count: shares.len() as u8,
-        shares: array::from_fn(|place| shares.get(place).copied().unwrap_or(NO_SHARE)),
+        shares: places,
     }
 }
 

@@ -5,7 +5,7 @@ use Rattle.shelf.specs.declared.day_row.DayRow.{DayRow}
 use Rattle.shelf.specs.DayRows.{rows_of}
 use Rattle.weather.specs.Weathers.{profile_row}
 use Rattle.weather.specs.WeatherDays.{row_place}
-use Rattle.weather.proofs.weather.WeatherShelf.row.Goals as goal
+use Rattle.weather.proofs.weather.Weather.known_row.Goals as goal
 
 -- what is read at the place of a profile's row, whatever sum gave the place
 row_at : (rows : List DayRow) (p r at : ℕ) (x : DayRow) → x ≡ get_or rows at x → at ≡ 35 * p + r → 35 * p + r < length rows → Some x.values ≡ option_map (profile_row (rows_of rows) p) (Some r)
